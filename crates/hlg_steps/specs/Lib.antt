@@ -1,0 +1,4 @@
+pub mod Exponential
+pub mod Signal
+pub mod Steps
+pub mod StepTable

@@ -1,0 +1,2 @@
+pub mod Pq
+pub mod LightTable

@@ -1,0 +1,45 @@
+-- The PQ value of a light and the rule of the light table (scope, Light: PQ value). Lights and signals are fractions, light in units.
+-- Light l has the PQ value V with V^32 = r^2523, r = (3424 + 77216w) / (4096 + 76544w), w^8192 = (l / 10,000N)^1305. Every power is
+-- cross-multiplied; r grows with w, so a fraction on one side of w gives a fraction on the same side of V.
+use mathlib.Core.Path.{_≡_}
+use Prim.Native.Nat.{ℕ, zero, suc, _+_, _*_, _^_, _≤_, _<_}
+use native.Mathlib.Nat.{zero-lt-suc}
+use Rattle.laws.specs.Fraction.{Fraction, over, whole}
+use Rattle.quantity.specs.Units.{tenThousand}
+
+-- r at w = a / b is ratioNum a b / ratioDen a b
+unfoldable pub ratioNum : ℕ → ℕ → ℕ
+ratioNum a b = 3424 * b + 77216 * a
+
+unfoldable pub ratioDen : ℕ → ℕ → ℕ
+ratioDen a b = 4096 * b + 76544 * a
+
+-- V(l) ≤ x: some fraction w is at least that of l, and its V is at most x
+pub record ValueAtMost (l x : Fraction) : Type 0 where
+  pub w : Fraction
+  pub of-light : l .num ^ 1305 * w .den ^ 8192 ≤ w .num ^ 8192 * (tenThousand * l .den) ^ 1305
+  pub of-signal : ratioNum (w .num) (w .den) ^ 2523 * x .den ^ 32 ≤ x .num ^ 32 * ratioDen (w .num) (w .den) ^ 2523
+
+-- x ≤ V(l): some fraction w is at most that of l, and its V is at least x
+pub record ValueAtLeast (l x : Fraction) : Type 0 where
+  pub w : Fraction
+  pub of-light : w .num ^ 8192 * (tenThousand * l .den) ^ 1305 ≤ l .num ^ 1305 * w .den ^ 8192
+  pub of-signal : x .num ^ 32 * ratioDen (w .num) (w .den) ^ 2523 ≤ ratioNum (w .num) (w .den) ^ 2523 * x .den ^ 32
+
+-- x < V(l)
+pub record ValueAbove (l x : Fraction) : Type 0 where
+  pub w : Fraction
+  pub of-light : w .num ^ 8192 * (tenThousand * l .den) ^ 1305 ≤ l .num ^ 1305 * w .den ^ 8192
+  pub of-signal : x .num ^ 32 * ratioDen (w .num) (w .den) ^ 2523 < ratioNum (w .num) (w .den) ^ 2523 * x .den ^ 32
+
+-- the signal k/3504 of the table's index k, and the signal q/897,024 of a position q
+abbrev pub indexSignal : ℕ → Fraction
+indexSignal k = over k 3504 (zero-lt-suc 3503)
+
+abbrev pub positionSignal : ℕ → Fraction
+positionSignal q = over q 897024 (zero-lt-suc 897023)
+
+-- p is the right entry at index k: the light of signal k/3504 in whole units, rounded down
+unfoldable pub IsEntry : ℕ → ℕ → Type 0
+IsEntry zero p = p ≡ 0
+IsEntry (suc k) p = ValueAtMost (whole p) (indexSignal (suc k)) × ValueAbove (whole (suc p)) (indexSignal (suc k))
