@@ -1,0 +1,2 @@
+pub mod ExactValue
+pub mod Demand
