@@ -4,7 +4,7 @@ use mathlib.Core.Logic.{_⊎_, inl, inr}
 use mathlib.Core.Bool.{Bool, true, false, _&&_}
 use mathlib.Core.List.{List, [], _∷_}
 use Prim.Native.Nat.{ℕ, zero, suc, _+_, _≤_, _<_}
-use native.Mathlib.Nat.{add-zero, add-suc, suc-add, le-dest, le-of-suc-le, le-of-suc-le-suc, not-suc-le-zero, eq-or-lt-of-le, lt-trans}
+use native.Mathlib.Nat.{add-zero, zero-add, add-suc, suc-add, le-dest, le-of-suc-le, le-of-suc-le-suc, not-suc-le-zero, eq-or-lt-of-le, lt-trans}
 use native.Mathlib.Decide.{decLe}
 use native.Mathlib.Omega.{arith}
 use lib.Dec.{T, ltb, ltb→lt}
@@ -51,6 +51,10 @@ at-entry f (x ∷ xs) i t zero h = subst (λ (m : ℕ). T (f m x)) (sym (add-zer
 at-entry f (x ∷ xs) i t (suc k) h =
     subst (λ (m : ℕ). T (f m (getD xs k 0))) (suc-add i k ∙ sym (add-suc i k))
     (at-entry f xs (suc i) (and-r (f i x) (every f (suc i) xs) t) k (le-of-suc-le-suc h))
+
+-- places counted from 0
+pub at-place : (f : ℕ → ℕ → Bool) (xs : List ℕ) → T (every f 0 xs) → (k : ℕ) → k < length xs → T (f k (getD xs k 0))
+at-place f xs t k h = subst (λ (m : ℕ). T (f m (getD xs k 0))) (zero-add k) (at-entry f xs 0 t k h)
 
 -- a table whose test is given a hint for each entry: as many hints as entries
 module _ {H : Type 0} (f : ℕ → ℕ → H → Bool) where

@@ -1,0 +1,1 @@
+"""Tests that stand beside the engine; run them from the repository's root."""

@@ -1,0 +1,197 @@
+"""Titles, rows and cards that are stored as vectors, each under a telling name."""
+
+from random import Random
+
+from .samples import draw_pixel
+
+DAMAGE_PEAK = b"\x01\x03\xe8"                   # MaxCLL 1,000
+WHITE, RED, BLACK = (723, 723, 723), (723, 64, 64), (64, 64, 64)
+CORNERS = (BLACK, RED, (64, 723, 64), (64, 64, 723), (723, 723, 64), (64, 723, 723),
+           (723, 64, 723), WHITE)
+
+
+def word(value):
+    """Two bytes, high byte first."""
+    return value.to_bytes(2, "big")
+
+
+def row(*pixels):
+    """The bytes of a row."""
+    return b"".join(word(sample) for pixel in pixels for sample in pixel)
+
+
+def title(card, width, *rows):
+    """A card, a width and rows."""
+    return card + word(width) + b"".join(rows)
+
+
+def maxcll(peak):
+    """A card that names only MaxCLL."""
+    return b"\x01" + word(peak)
+
+
+def refused_cards():
+    """Refusals 1 to 4; a good width and row follow, so that nothing else is wrong."""
+    good = word(1) + row(WHITE)
+    yield "empty", b""
+    for bit in range(3, 8):
+        yield f"reserved_bit_{bit}", bytes([1 << bit]) + good
+    yield "reserved_bit_3_alone", b"\x08"
+    yield "reserved_bit_7_with_maxcll_cut", b"\x81\x03"
+    yield "reserved_bit_4_with_maxcll_zero", b"\x11\x00\x00" + good
+    yield "card_cut_before_maxcll", b"\x01"
+    yield "card_cut_in_maxcll", b"\x01\x03"
+    yield "card_cut_before_mastering_peak", b"\x02"
+    yield "card_cut_in_mastering_peak", b"\x02\x0f"
+    yield "card_cut_after_maxcll", b"\x03\x03\xe8"
+    yield "card_cut_in_second_field", b"\x03\x03\xe8\x0f"
+    yield "card_cut_after_maxcll_zero", b"\x03\x00\x00"
+    yield "unconstrained_card_cut_in_maxcll", b"\x05\x27"
+    yield "maxcll_zero", maxcll(0) + good
+    yield "maxcll_10001", maxcll(10_001) + good
+    yield "maxcll_65535", maxcll(65_535) + good
+    yield "mastering_peak_zero", b"\x02" + word(0) + good
+    yield "mastering_peak_10001", b"\x02" + word(10_001) + good
+    yield "mastering_peak_zero_beside_maxcll", b"\x03" + word(1_000) + word(0) + good
+    yield "mastering_peak_10001_beside_maxcll", b"\x03" + word(1_000) + word(10_001) + good
+    yield "maxcll_zero_beside_mastering_peak", b"\x03" + word(0) + word(1_000) + good
+    yield "maxcll_zero_unconstrained", b"\x05" + word(0) + good
+    yield "maxcll_zero_and_nothing_else", maxcll(0)
+
+
+def refused_widths():
+    """Refusal 10."""
+    yield "width_missing", DAMAGE_PEAK
+    yield "width_missing_after_bit_map", b"\x00"
+    yield "width_missing_low_byte", DAMAGE_PEAK + b"\x00"
+    yield "width_missing_low_byte_of_8192", DAMAGE_PEAK + b"\x20"
+    yield "width_zero", title(DAMAGE_PEAK, 0)
+    yield "width_zero_with_row", title(DAMAGE_PEAK, 0, row(WHITE))
+    yield "width_8193", title(DAMAGE_PEAK, 8_193)
+    yield "width_8193_with_row", title(DAMAGE_PEAK, 8_193, row(BLACK) * 8_193)
+    yield "width_65535", title(DAMAGE_PEAK, 65_535, row(WHITE))
+
+
+def refused_rows():
+    """Refusals 11 and 9, and which of the two comes first."""
+    card = DAMAGE_PEAK
+    for n in range(1, 6):
+        yield f"row_cut_after_byte_{n}", title(card, 1, row(RED)[:n])
+        yield f"second_row_cut_after_byte_{n}", title(card, 1, row(WHITE), row(RED)[:n])
+    yield "row_cut_between_pixels", title(card, 2, row(WHITE))
+    yield "third_row_cut_in_last_sample", title(card, 2, row(WHITE, RED) * 2, row(WHITE, RED)[:-1])
+    for name, sample in (("0", 0), ("3", 3), ("1020", 1_020), ("1024", 1_024), ("16384", 16_384), ("65535", 65_535)):
+        yield f"sample_{name}", title(card, 1, row((64, sample, 64)))
+    yield "bad_red_first_row", title(card, 2, row((3, 64, 64), WHITE))
+    yield "bad_green_first_row", title(card, 2, row((64, 1_020, 64), WHITE))
+    yield "bad_blue_first_row", title(card, 2, row((64, 64, 3), WHITE))
+    yield "bad_last_sample_first_row", title(card, 2, row(WHITE, (64, 64, 1_020)))
+    yield "bad_sample_second_row", title(card, 2, row(WHITE, RED), row(WHITE, (64, 3, 64)), row(WHITE, RED))
+    yield "bad_sample_last_row", title(card, 1, row(WHITE), row(RED), row((1_020, 64, 64)))
+    yield "bad_sample_in_cut_row", title(card, 2, row((3, 64, 64), WHITE)[:-1])
+    yield "bad_sample_before_cut_row", title(card, 1, row((3, 64, 64)), row(WHITE)[:4])
+    yield "cut_row_after_good_rows", title(card, 3, row(*CORNERS[:3]), row(*CORNERS[3:6]), row(*CORNERS[6:]))
+
+
+def accepted_titles():
+    """Titles that convert whole."""
+    yield "sample", bytes.fromhex("01 03 E8 00 02 02 D3 02 D3 02 D3 02 D3 00 40 00 40")
+    yield "title_without_rows", title(DAMAGE_PEAK, 2)
+    yield "title_without_rows_width_8192", title(b"\x00", 8_192)
+    yield "corner_pixels_peak_1000", title(maxcll(1_000), 8, row(*CORNERS))
+    yield "corner_pixels_one_a_row", title(maxcll(1_000), 1, *map(row, CORNERS))
+    yield "grey_65_peak_1000", title(maxcll(1_000), 1, row((65, 65, 65)))
+    yield "sub_black_4_and_super_white_1019_peak_4000", title(maxcll(4_000), 2, row((4,) * 3, (1_019,) * 3))
+    yield "white_940_peak_10000", title(maxcll(10_000), 1, row((940,) * 3))
+    yield "knee_peak_4000", title(maxcll(4_000), 7, row(*((D,) * 3 for D in range(653, 660))))
+    yield "lowest_and_highest_samples", title(maxcll(1_000), 3, row((4, 64, 1_019), (1_019, 4, 4), (64, 1_019, 4)))
+    ramp = row(*((D, D, D) for D in range(4, 1_020)))
+    for peak in (1, 1_000, 1_001, 4_000, 10_000):
+        yield f"all_greys_peak_{peak}", title(maxcll(peak), 1_016, ramp)
+    above = [(D, 64 + 3 * (D - 700) // 2, 500) for D in range(740, 1_020, 8)]
+    yield "rows_above_peak_1500", title(maxcll(1_500), 5, row(*above))
+    yield "rows_above_peak_100", title(maxcll(100), 5, row(*above))
+
+
+def named_peaks():
+    """Where the peak comes from; the same bright pixels under each card."""
+    pixels = row((700, 720, 740), (800, 64, 64), (940, 900, 1_019))
+    cards = (
+        ("no_peak_named", b"\x00"),
+        ("unconstrained", b"\x04"),
+        ("mastering_peak_2000", b"\x02" + word(2_000)),
+        ("mastering_peak_2000_unconstrained", b"\x06" + word(2_000)),
+        ("maxcll_1200_mastering_peak_2000", b"\x03" + word(1_200) + word(2_000)),
+        ("maxcll_1200_unconstrained", b"\x05" + word(1_200)),
+        ("maxcll_1200_mastering_peak_2000_unconstrained", b"\x07" + word(1_200) + word(2_000)),
+        ("maxcll_1", maxcll(1)),
+        ("maxcll_10000", maxcll(10_000)),
+        ("mastering_peak_1", b"\x02" + word(1)),
+        ("mastering_peak_10000", b"\x02" + word(10_000)),
+    )
+    for name, card in cards:
+        yield "peak_" + name, title(card, 3, pixels)
+
+
+def wide_rows():
+    """The widest row: taken, cut by one byte, and with a bad last sample."""
+    random = Random(8_192)
+    pixels = [draw_pixel(random, 3_000) for _ in range(8_192)]
+    yield "width_8192_one_row", title(maxcll(3_000), 8_192, row(*pixels))
+    yield "width_8192_cut_by_one_byte", title(maxcll(3_000), 8_192, row(*pixels)[:-1])
+    yield "width_8192_bad_last_sample", title(maxcll(3_000), 8_192, row(*pixels[:-1], (64, 64, 1_020)))
+    yield "width_1_many_rows", title(maxcll(3_000), 1, row(*pixels[:300]))
+    yield "width_1_bad_sample_after_300_rows", title(maxcll(3_000), 1, row(*pixels[:300], (3, 64, 64), *pixels[:9]))
+
+
+def titles():
+    """All named inputs of the program."""
+    for group in (accepted_titles, named_peaks, wide_rows, refused_cards, refused_widths, refused_rows):
+        yield from group()
+
+
+def cards():
+    """Openings of titles for the two card calls: every bit map, whole, cut and with odd fields."""
+    for bits in range(256):
+        yield bytes([bits]) + word(1_000) + word(2_000) + b"\x77"
+    for name, data in (*refused_cards(), *named_peaks()):
+        yield data[:8]
+    for bits in range(8):
+        for first, second in ((1, 10_000), (10_000, 1), (0, 1), (1, 0), (10_001, 1), (1, 10_001), (256, 257)):
+            yield bytes([bits]) + word(first) + word(second)
+        for length in range(6):
+            yield (bytes([bits]) + word(1_234) + word(5_678))[:length]
+
+
+def row_calls():
+    """Arguments of the row call: peak, row, bytes of the destination, first, end."""
+    big = 2**64 - 1
+    random = Random(56_789)
+    four = row(*(draw_pixel(random, 4_000) for _ in range(4)))
+    bad = row((64, 3, 64), (64, 64, 1_020), (70, 71, 72), (0, 64, 65_535))
+    none = (0, 10_001, 2**16 + 1_000, 2**32 + 1_000, 2**63, big)
+    for first in range(5):
+        for end in range(first, 5):
+            yield 4_000, four, 24, first, end
+            yield 4_000, bad, 24, first, end
+    for peak in none:
+        yield peak, four, 24, 0, 4
+        yield peak, bad[:5], 7, 2, 1
+    for length in (1, 2, 3, 4, 5, 7, 23):
+        yield 1_000, four[:length], length, 0, 0
+        yield 1_000, four[:length], 24, 1, 0
+    yield 1_000, bytes(49_158), 49_158, 0, 0
+    yield 1_000, bytes(49_158), 49_158, 0, 8_193
+    yield 1_000, bytes(49_152), 49_152, 0, 0
+    yield 1_000, bytes(49_152), 49_152, 8_191, 8_192
+    yield 1_000, bytes(49_152), 49_152, 8_192, 8_192
+    yield 1_000, bytes(49_152), 49_152, 8_192, 8_193
+    for length in (0, 18, 23, 25, 30):
+        yield 1_000, four, length, 0, 4
+        yield 1_000, bad, length, 3, 2
+    for first, end in ((1, 0), (4, 3), (5, 5), (0, 5), (5, 4), (0, big), (big, big), (big, 0), (2**63, 2**63)):
+        yield 1_000, four, 24, first, end
+        yield 1_000, bad, 24, first, end
+    for first, end in ((0, 0), (0, 1), (1, 1), (1, 0), (big, big)):
+        yield 1_000, b"", 0, first, end
+    yield 1_000, b"", 6, 0, 0

@@ -1,0 +1,412 @@
+"""Every number that document 01 names, and the laws between its parts.
+
+    python3 -m tests.reference.check
+
+Each function below is one law; it yields statements with whether they hold.
+"""
+
+import subprocess
+import sys
+from decimal import Decimal, localcontext
+from fractions import Fraction
+from io import BytesIO
+from math import isqrt
+from pathlib import Path
+from random import Random
+
+from . import curve, exact, hlg, light, metadata, program, row
+from .cases import CORNERS, row as row_bytes, title
+from .light import A, BRIGHTEST, END, LAST, N, P
+from .pixel import convert_pixel, hlg_codes, mapped_components
+from .refusal import Refused
+from .rounding import power, power_below
+from .samples import MARKED_PEAKS, draw_peaks, draw_pixel
+from .survey import held_to_nine_sixteenths, quick_distance
+from .vectors import FILL, converted
+
+ROOT = Path(__file__).resolve().parents[2]
+OUTPUTS = ((64, 64, 64), (976, 64, 64), (64, 950, 64), (64, 64, 1_015), (942, 942, 64),
+           (64, 948, 948), (970, 64, 970), (940, 940, 940))     # document 002's table, RGB columns
+
+
+def refusal(call, *arguments):
+    """A call's refusal as (number, place), None if it is accepted."""
+    try:
+        call(*arguments)
+    except Refused as refused:
+        return refused.number, refused.place
+    return None
+
+
+def grey(D):
+    """A pixel of three equal codes."""
+    return D, D, D
+
+
+# Light
+
+def w_by_roots(p, up):
+    """w of a light by thirteen whole square roots and the power 1305, on the asked side."""
+    one = 2**320
+    x = -(-p * one // BRIGHTEST) if up else p * one // BRIGHTEST
+    for _ in range(13):
+        x = isqrt(x * one - 1) + 1 if up else isqrt(x * one)
+    m, shift = power(x, one, 1_305, up)
+    return m, 2**-shift
+
+
+def brackets(k, p):
+    """V(p) <= k/3504 < V(p + 1), found from the lights and not from the signal."""
+    return (power_below(light.r_of(w_by_roots(p, True)), 2_523, (k, LAST), 32)
+            and power_below((k, LAST), 32, light.r_of(w_by_roots(p + 1, False)), 2_523))
+
+
+def brackets_by_whole_powers(k, p):
+    """The same by the document's powers, multiplied out and uncut."""
+    def less(left, e, right, o):
+        return left[0]**e * right[1]**o < right[0]**o * left[1]**e
+    near, one = int(light.guess(k)[0] * 10**20), 10**20
+    low, high = (near - 1, one), (near + 2, one)
+    return (less((p, BRIGHTEST), 1_305, low, 8_192) and less(light.r_of(low), 2_523, (k, LAST), 32)
+            and less(high, 8_192, (p + 1, BRIGHTEST), 1_305) and less((k, LAST), 32, light.r_of(high), 2_523))
+
+
+def light_table():
+    yield "N is 2 to the 24th", N == 2**24
+    yield "there are 3,505 entries", len(P) == 3_505
+    yield "P[0] is 0", P[0] == 0
+    yield "P[3504] is 10,000 N", P[3_504] == 10_000 * N
+    yield "w 1 has r 1, so light 10,000 N has PQ value 1", light.r_of((1, 1))[0] == light.r_of((1, 1))[1]
+    yield "entries rise strictly", all(low < high for low, high in zip(P, P[1:]))
+    yield "every entry brackets its signal, found a second way", all(brackets(k, P[k]) for k in range(1, LAST))
+    yield "some entries, by powers that are not cut", all(
+        brackets_by_whole_powers(k, P[k]) for k in (1, 2, 4, 100, 1_752, 2_636, 3_000, 3_503))
+    yield "entries are the EOTF in long decimals, rounded down", all(
+        int(exact.pq_eotf(Decimal(k) / LAST) * N) == P[k] for k in range(0, LAST, 73))
+    yield "an index past the table reads its end", light.light_entry(2**64 - 1) == P[LAST]
+
+
+def light_of_codes():
+    yield "sub-blacks read as 64", all(light.light_of_code(D) == 0 for D in range(4, 65))
+    yield "super-whites read as 940", all(light.light_of_code(D) == BRIGHTEST for D in range(940, 1_020))
+    yield "code 65 has the light P[4]", light.light_of_code(65) == P[4]
+    yield "codes rise in light", all(light.light_of_code(D) < light.light_of_code(D + 1) for D in range(64, 940))
+    yield "723 is the first code above 1,000 cd/m2", light.light_of_code(722) < A < light.light_of_code(723)
+
+
+def positions():
+    lights = [light.light_at(q) for q in range(END + 1)]
+    yield "897,024 positions, 256 to an entry", END == 897_024
+    yield "lights never fall with the position", all(low <= high for low, high in zip(lights, lights[1:]))
+    yield "every 256th position has a table entry", lights[::256] == list(P)
+    yield "1,000 cd/m2 stands at 674,406", curve.t == 674_406
+    yield "light 0 stands at 3", light.position_of(0) == 3
+    yield "10,000 cd/m2 stands at the end", light.position_of(BRIGHTEST) == END
+    yield "a position or light past the end reads the end", (
+        light.light_at(2**64 - 1) == BRIGHTEST and light.position_of(2**64 - 1) == END)
+    random = Random(1)
+    for name, drawn in (("drawn lights", [random.randrange(BRIGHTEST) for _ in range(2_000)]),
+                        ("dim lights", range(1_000)), ("whole peaks", [L * N for L in range(1, 10_000)])):
+        at = [(l, light.position_of(l)) for l in drawn]
+        yield f"{name} stand at the largest position not above them", all(
+            lights[q] <= l < lights[q + 1] for l, q in at)
+
+
+# The highlight curve
+
+def hermite(E1, maxLum):
+    """Document 002's spline with zero black: P[E1], all signals divided by the peak's."""
+    KS = Fraction(3, 2) * maxLum - Fraction(1, 2)
+    T = (E1 - KS) / (1 - KS)
+    return ((2 * T**3 - 3 * T**2 + 1) * KS + (T**3 - 2 * T**2 + T) * (1 - KS)
+            + (-2 * T**3 + 3 * T**2) * maxLum)
+
+
+def short_spline(m, t, w):
+    """Document 01's form of it, before rounding."""
+    return t - 4 * (w - m)**3 / (27 * (w - t)**2)
+
+
+def spline_is_hermite():
+    """With u = 1 - t and v = 1 - m at w = 1, u**3 times either side is a polynomial of degree at most
+    4 in u and 3 in v, so agreement on a 5 by 4 grid is equality; a common factor of m, t, w is lost."""
+    grid = [(Fraction(v, 7), 1 - Fraction(u, 11)) for v in range(4) for u in range(1, 6)]
+    yield "both forms agree on the grid that decides them", all(
+        hermite(m, t) == short_spline(m, t, Fraction(1)) for m, t in grid)
+    random = Random(2)
+    cases = [(random.randint(0, END), curve.t, curve.position_of_peak(random.randint(1_001, 10_000)))
+             for _ in range(500)]
+    yield "both forms agree at positions of codes and peaks", all(
+        w * hermite(Fraction(m, w), Fraction(t, w)) == short_spline(Fraction(m), t, w) for m, t, w in cases)
+    yield "the knee is document 002's", all(
+        (2 * m < 3 * t - w) == (Fraction(m, w) < Fraction(3, 2) * Fraction(t, w) - Fraction(1, 2))
+        for m, t, w in cases)
+    yield "the whole-number curve is that form rounded down", all(
+        curve.spline(m, w) == short_spline(Fraction(m), t, w).__floor__() for m, t, w in cases if m <= w)
+
+
+def highlight_curve():
+    w = curve.position_of_peak(4_000)
+    yield "peak 4,000: codes to 656 are below the knee, 657 and up are not", all(
+        curve.below_knee(curve.position_of_code(D), w) == (D <= 656) for D in range(64, 941))
+    yield "code 64 has m 0", curve.position_of_code(64) == 0
+    low = [curve.bend_code(D, L) for L in (1, 999, 1_000) for D in range(64, 941)]
+    yield "a peak up to 1,000 only cuts at 1,000 cd/m2", all(M2 == min(M1, A) for M1, M2 in low)
+    for L in draw_peaks(Random(3), 60):
+        bent = [curve.bend_code(D, L) for D in range(64, 941)]
+        yield f"peak {L}: nothing above 1,000 cd/m2, never falling", (
+            all(M2 <= A for _, M2 in bent) and all(x[1] <= y[1] for x, y in zip(bent, bent[1:])))
+        if L > 1_000:
+            w = curve.position_of_peak(L)
+            yield f"peak {L}: the end is kept above the peak", all(
+                M2 == light.light_at(curve.t) for D, (_, M2) in enumerate(bent, 64)
+                if curve.position_of_code(D) >= w)
+    yield "stages read the nearer end", (
+        curve.bend(10, 0, 0) == curve.bend(10, 0, 1)
+        and curve.bend(2**64, 2**64, 10**6) == curve.bend(BRIGHTEST, END, 10_000)
+        and curve.scale(2**64, A, BRIGHTEST) == A and curve.scale(7, 2**64, 7) == A
+        and curve.scale(BRIGHTEST, 2**64, 2**64) == A and curve.scale(0, 0, 0) == 0)
+
+
+def published_patches():
+    """Document 003's maxRGB table: 4,000 cd/m2 patches bent to 1,000.
+
+    Its figures passed through code values and agree with the formulas to 3 parts in 10,000."""
+    patches = (("3009.9 182.92 0", "998.32 60.681 0"), ("793 3763.9 70.3", "210.72 1000.00 18.678"),
+               ("189.92 49.826 3929.4", "48.341 12.682 1000.00"))
+    for source, target in patches:
+        lights = [Decimal(x) for x in source.split()]
+        top = max(lights)
+        bent = exact.bent_light(exact.pq_inverse_eotf(top), 4_000)
+        yield f"patch {source} becomes {target}", all(
+            abs(x * bent / top - Decimal(y)) <= Decimal("0.0003") * Decimal(y) for x, y in zip(lights, target.split()))
+
+
+# HLG code
+
+def hlg_steps():
+    T = hlg.T
+    yield "steps run from 65 to 1,019", list(T) == list(range(65, 1_020))
+    yield "steps rise strictly", all(T[d] < T[d + 1] for d in range(65, 1_019))
+    yield "502 is the last step below signal 1/2", hlg.signal_of_step(502) < Fraction(1, 2) < hlg.signal_of_step(503)
+    yield "that is where scene light 1/12 lies", 12 * T[502] < hlg.SCENE < 12 * T[503]
+    yield "square steps are the smallest by their inequality", all(
+        3 * (T[d] - 1) * 1_752**2 < (2 * d - 129)**2 * 2**40 <= 3 * T[d] * 1_752**2 for d in range(65, 503))
+
+    def value(s):
+        return 64 + 876 * exact.hlg_oetf(Decimal(s) / hlg.SCENE)
+    yield "each step is the first scene light that rounds to its code", all(
+        value(T[d] - 1) < d - Decimal("0.5") <= value(T[d]) for d in T)
+    yield "an index past the steps reads the nearer end", (
+        hlg.step(0) == T[65] and hlg.step(2**64 - 1) == T[1_019])
+    low, high = hlg.exp_bounds(Fraction(1))
+    yield "bounds of exp(1) and exp(-1) are close and reciprocal", (
+        0 < high - low < Fraction(1, 2**240) and hlg.exp_bounds(Fraction(-1)) == (1 / high, 1 / low))
+
+
+def hlg_code():
+    random = Random(4)
+    mapped = [tuple(random.randint(0, A >> random.randrange(34)) for _ in range(3)) for _ in range(120)]
+    pairs = [(R, hlg.luminance(three)) for three in mapped for R in three]
+    yield "the search finds the largest code reached", all(
+        hlg.code(R, Y) == max((d for d in hlg.T if hlg.reached(d, R, Y)), default=64) for R, Y in pairs)
+    even = 2**240 * 10_000 * A          # with R = T[d] * A both sides of the comparison are equal
+    yield "equal sides reach the step, a hair more luminance doesn't", all(
+        hlg.code(s * A, even) == d and hlg.code(s * A, even + 1) == d - 1 for d, s in hlg.T.items())
+    yield "a component above 1,000 cd/m2 reads that", hlg.codes((2**64, 0, 2**63)) == hlg.codes((A, 0, A))
+    yield "the weights add up to 10,000", sum(hlg.WEIGHTS) == 10_000
+
+
+def published_constants():
+    yield "b is 1 - 4a exactly", hlg.b == 1 - 4 * hlg.a
+    tail = Decimal("0.5") - exact.a * (4 * exact.a).ln() - exact.c
+    yield "c is printed rounded; document 01 takes it as it stands", 0 < abs(tail) < Decimal("5e-9")
+    yield "the PQ exponents are document 01's fractions", (
+        (exact.m1 * 8_192, exact.m2 * 32) == (1_305, 2_523))
+    yield "the PQ constants are document 01's fractions", (
+        tuple(4_096 * x for x in (exact.c1, exact.c2, exact.c3)) == (3_424, 77_216, 76_544))
+    blue = exact.scene_lights((Decimal(0), Decimal(0), Decimal(1_000)))[2]
+    yield "the largest scene light is 1.601367, of blue", round(blue, 6) == Decimal("1.601367")
+
+
+def published_table():
+    """Document 002's table starts from 1,000 cd/m2 and not from a code."""
+    for pixel, codes in zip(CORNERS, OUTPUTS):
+        lights = [Decimal(1_000 if D == 723 else 0) for D in pixel]
+        exacts = exact.exact_values_of_lights(lights)
+        yield f"lights of {pixel} give {codes}", tuple(int(x + Decimal("0.5")) for x in exacts) == codes
+
+
+# Corner pixels
+
+def corner_pixels():
+    for pixel, codes in zip(CORNERS, OUTPUTS):
+        yield f"{pixel}, peak 1,000: {codes}", convert_pixel(1_000, pixel) == codes
+    for D, L, code in ((4, 4_000, 64), (1_019, 4_000, 940), (940, 10_000, 940), (65, 1_000, 65)):
+        yield f"grey {D}, peak {L}: {code}", convert_pixel(L, grey(D)) == grey(code)
+
+
+def other_examples():
+    yield "samples 3 and 1,020 are refused", (
+        refusal(convert_pixel, 1_000, grey(3)) == refusal(convert_pixel, 1_000, grey(1_020)) == (9, 0))
+    yield "samples 4 and 1,019 are taken", (
+        refusal(convert_pixel, 1_000, grey(4)) is None and refusal(convert_pixel, 1_000, grey(1_019)) is None)
+    yield "peaks 0 and 10,001 are refused", (
+        refusal(convert_pixel, 0, grey(64)) == refusal(convert_pixel, 10_001, grey(64)) == (5, 0))
+    yield "peaks 1 and 10,000 are taken", (
+        refusal(convert_pixel, 1, grey(64)) is None and refusal(convert_pixel, 10_000, grey(64)) is None)
+    yield "5 comes before 9", refusal(convert_pixel, 0, grey(3)) == (5, 0)
+    yield "the place is the first bad sample's", (
+        refusal(convert_pixel, 1, (64, 3, 3)) == (9, 1) and refusal(convert_pixel, 1, (64, 64, 2**64 - 1)) == (9, 2))
+    for width, wanted in ((8_192, None), (8_193, (6, 0))):
+        data = row_bytes(grey(64)) * width
+        yield f"a row of {width} pixels", refusal(row.convert_row, 1_000, data, bytearray(len(data)), 0, 1) == wanted
+
+
+# Cards, rows, program
+
+def cards():
+    peak = metadata.peak_of_metadata
+
+    def given(text):
+        return refusal(peak, bytes.fromhex(text)) or peak(bytes.fromhex(text))
+    answers = (
+        ("", (1, 0)), ("08", (2, 0)), ("80", (2, 0)), ("09", (2, 0)), ("01", (3, 0)), ("0103", (3, 0)),
+        ("0303e8", (3, 0)), ("030000", (3, 0)), ("010000", (4, 0)), ("012711", (4, 0)), ("0303e80000", (4, 0)),
+        ("03000003e8", (4, 0)), ("0103e8", 1_000), ("020fa0", 4_000), ("0303e80fa0", 1_000), ("04", 10_000),
+        ("060fa0", 4_000), ("0507d0", 2_000), ("0703e80fa0", 1_000), ("00", 4_000), ("010001", 1), ("012710", 10_000))
+    for text, answer in answers:
+        yield f"card {text or 'empty'}: {answer}", given(text) == answer
+    yield "what follows a card", metadata.after_metadata(bytes.fromhex("0303e80fa0c0ffee")) == b"\xc0\xff\xee"
+    yield "nothing follows a refused card", all(
+        metadata.after_metadata(bytes.fromhex(text)) == b"" for text in ("", "08ff", "0103", "010000ff"))
+
+
+def rows():
+    data = row_bytes(*CORNERS)
+    whole = b"".join(row_bytes(pixel) for pixel in OUTPUTS)
+    for first in range(9):
+        for end in range(first, 9):
+            destination = bytearray([FILL]) * len(data)
+            number = row.c_number(1_000, data, destination, first, end)
+            wanted = bytearray([FILL]) * len(data)
+            wanted[6 * first:6 * end] = whole[6 * first:6 * end]
+            yield f"pixels {first} to {end}: these places and no others", (number, destination) == (0, wanted)
+    bad = row_bytes(grey(64), (64, 64, 1_020), grey(64))
+    calls = (                           # number, peak, row, bytes of the destination, first, end
+        (5, 0, bad[1:], 1, 2, 1), (6, 1, bad[1:], 1, 2, 1), (6, 1, bytes(49_158), 49_158, 0, 0),
+        (7, 1, bad, 1, 2, 1), (8, 1, bad, 18, 2, 1), (8, 1, bad, 18, 0, 4),
+        (9 + 256 * 5, 1, bad, 18, 0, 3), (9 + 256 * 5, 1, bad, 18, 1, 2),
+        (0, 1, bad, 18, 2, 3), (0, 1, bad, 18, 3, 3),
+        (0, 1, b"", 0, 0, 0), (8, 1, b"", 0, 0, 1), (7, 1, b"", 6, 0, 0))
+    for number, peak, given, length, first, end in calls:
+        destination = bytearray([FILL]) * length
+        answer = row.c_number(peak, given, destination, first, end)
+        yield f"C number {number}: {len(given)} bytes, pixels {first} to {end}", answer == number
+        yield f"C number {number}: nothing is written by a refusal", (
+            number == 0 or destination == bytearray([FILL]) * length)
+
+
+def program_answers():
+    card = b"\x01\x03\xe8"
+    white, lines = row_bytes(grey(723)), b"940 940 940\n"
+    cut, bad = white[:5], row_bytes((64, 3, 64))
+    answers = (
+        ("no input", b"", b"refused 1\n"), ("one byte of width", card + b"\0", b"refused 10\n"),
+        ("no width", card, b"refused 10\n"), ("width 0", title(card, 0), b"refused 10\n"),
+        ("width 8,193", title(card, 8_193), b"refused 10\n"), ("no rows", title(card, 8_192), b""),
+        ("a cut row", title(card, 1, white, cut), lines + b"refused 11\n"),
+        ("a row cut between pixels", title(card, 2, white), b"refused 11\n"),
+        ("a bad row", title(card, 1, white, bad, white), lines + b"refused 9\n"),
+        ("a bad and cut row", title(card, 2, bad, cut), b"refused 11\n"),
+        ("a cut row after a bad one", title(card, 1, bad, cut), b"refused 9\n"),
+        ("none of a refused row", title(card, 2, white, bad), b"refused 9\n"))
+    for name, data, printed in answers:
+        yield f"{name} prints {printed!r}", converted(data) == printed
+    sample = bytes.fromhex("0103E8 0002 02D302D302D3 02D300400040")
+    printed = b"940 940 940\n976 64 64\n"
+    yield "the sample", converted(sample) == printed
+    filter_command = [sys.executable, "-B", "-m", "tests.reference.program"]
+    run = subprocess.run(filter_command, cwd=ROOT, input=sample, capture_output=True)
+    yield "the sample as a filter", (run.returncode, run.stdout, run.stderr) == (0, printed, b"")
+    for limit, answer in ((0, b""), (1, lines), (2, 2 * lines), (3, 2 * lines + b"refused 9\n")):
+        out, source = [], BytesIO(title(card, 1, white, white, bad))
+        program.convert_title(source.read, out.append, limit)
+        yield f"at most {limit} rows, what follows stays unread", (
+            "".join(out).encode() == answer and source.tell() == 5 + 6 * limit)
+
+
+# Voted property 3
+
+def distance():
+    random = Random(5)
+    cases = [(L, draw_pixel(random, L)) for L in draw_peaks(random, 120) for _ in range(100)]
+
+    def near_enough(distance, case):
+        return distance <= Decimal(9) / 16 if held_to_nine_sixteenths(*case) else distance < 2
+    yield "quick distances: at most 9/16 where voted, below 2 elsewhere", all(
+        near_enough(quick_distance(*case), case) for case in cases)
+    some = random.sample(cases, 400)
+    far = [max(exact.distances(L, pixel, hlg_codes(L, pixel))) for L, pixel in some]
+    yield "long decimals: the same", all(map(near_enough, far, some))
+    yield "doubles and long decimals agree", all(
+        abs(float(d) - quick_distance(*case)) < 1e-9 for d, case in zip(far, some))
+    yield "no mapped component exceeds 1,000 cd/m2", all(max(mapped_components(*case)) <= A for case in cases)
+
+    def ordered(L, pixel):
+        sorted_codes = tuple(sorted(pixel))
+        mapped = mapped_components(L, sorted_codes)
+        codes = hlg_codes(L, sorted_codes)
+        return list(mapped) == sorted(mapped) and list(codes) == sorted(codes)
+    yield "a brighter component stays at least as bright", all(ordered(*case) for case in cases)
+    yield "a black pixel has exact values 64", exact.exact_values(4_000, (4, 64, 30)) == (64, 64, 64)
+
+
+def greys():
+    for L in MARKED_PEAKS:
+        codes = [hlg_codes(L, grey(D)) for D in range(4, 1_020)]
+        yield f"peak {L}: greys stay grey", all(len(set(three)) == 1 for three in codes)
+        yield f"peak {L}: greys never fall", all(min(high) >= max(low) for low, high in zip(codes, codes[1:]))
+
+
+def traps():
+    for L in (1_001, 1_500, 4_000):
+        yield f"peak {L}: the bare spline would pass 1,000 cd/m2 above the peak", (
+            light.light_at(curve.spline(END, curve.position_of_peak(L))) > A)
+    M1, M2 = curve.bend_code(940, 1_500)
+    yield "dividing by the peak's light would pass 1,000 cd/m2", (
+        curve.scale(M1, M2, M1) <= A < M1 * M2 // (1_500 * N))
+    yield "a title of peak 1,000 is not bent", all(
+        mapped_components(1_000, grey(D)) == grey(light.light_of_code(D)) for D in range(64, 723))
+    R, G, B = (light.light_of_code(D) for D in (900, 700, 800))
+    mapped = mapped_components(4_000, (900, 700, 800))
+    yield "all components shrink by one ratio", all(
+        abs(Fraction(x, y) - Fraction(mapped[0], R)) < Fraction(1, 2**30) for x, y in zip(mapped, (R, G, B)))
+
+
+LAWS = (light_table, light_of_codes, positions, spline_is_hermite, highlight_curve, published_patches, hlg_steps,
+        hlg_code, published_constants, published_table, corner_pixels, other_examples, cards, rows, program_answers,
+        distance, greys, traps)
+
+
+def failures():
+    """How many statements there are and how many do not hold; the latter are printed."""
+    count, failed = 0, 0
+    for law in LAWS:
+        for statement, holds in law():
+            count += 1
+            if not holds:
+                failed += 1
+                print(f"fails: {law.__name__}: {statement}")
+    return count, failed
+
+
+def main():
+    with localcontext(exact.LONG):
+        count, failed = failures()
+    print(f"{count} checks hold" if not failed else f"{failed} of {count} checks fail")
+    return 1 if failed else 0
+
+
+if __name__ == "__main__":
+    sys.exit(main())

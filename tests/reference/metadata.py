@@ -1,0 +1,50 @@
+"""Document 01, "Cards, rows, program": the card that opens a title and names its peak."""
+
+from .refusal import PEAK_TOP, Refused
+
+MAXCLL, MASTERING_PEAK, UNCONSTRAINED = 1, 2, 4      # bits of the opening byte
+DEFAULT_PEAK = 4_000
+FIELD_BYTES = 2
+
+
+def card_length(bits):
+    """Bytes of a card: the bit map and the fields whose bit stands."""
+    return 1 + FIELD_BYTES * sum(bool(bits & bit) for bit in (MAXCLL, MASTERING_PEAK))
+
+
+def card_fields(card):
+    """The fields by their bit, in the order of the bits; refusals 1, 2, 3 and 4 in that order."""
+    if not card:
+        raise Refused(1)
+    bits = card[0]
+    if bits >> 3:
+        raise Refused(2)
+    if len(card) < card_length(bits):
+        raise Refused(3)
+    fields, at = {}, 1
+    for bit in (MAXCLL, MASTERING_PEAK):
+        if bits & bit:
+            fields[bit] = int.from_bytes(card[at:at + FIELD_BYTES], "big")
+            at += FIELD_BYTES
+    if not all(1 <= value <= PEAK_TOP for value in fields.values()):
+        raise Refused(4)
+    return fields
+
+
+def peak_of_metadata(card):
+    """The declared peak in cd/m2 of the card that these bytes open with."""
+    fields = card_fields(card)
+    if MAXCLL in fields:
+        return fields[MAXCLL]
+    if MASTERING_PEAK in fields:
+        return fields[MASTERING_PEAK]
+    return PEAK_TOP if card[0] & UNCONSTRAINED else DEFAULT_PEAK
+
+
+def after_metadata(data):
+    """The bytes that follow the card; the empty end of them if the card is refused."""
+    try:
+        card_fields(data)
+    except Refused:
+        return data[len(data):]
+    return data[card_length(data[0]):]

@@ -1,0 +1,25 @@
+"""Document 01, "What stops a call": a refusal's number and its place."""
+
+PEAK_TOP = 10_000
+LOWEST_SAMPLE, HIGHEST_SAMPLE = 4, 1_019
+
+
+class Refused(Exception):
+    """A call's refusal; the place is 0 except for number 9."""
+
+    def __init__(self, number, place=0):
+        super().__init__(number, place)
+        self.number, self.place = number, place
+
+
+def refuse_peak(L):
+    """Refusal 5."""
+    if not 1 <= L <= PEAK_TOP:
+        raise Refused(5)
+
+
+def refuse_samples(samples, first=0):
+    """Refusal 9 at the first sample out of range; `first` is the place of the first one given."""
+    for place, sample in enumerate(samples, first):
+        if not LOWEST_SAMPLE <= sample <= HIGHEST_SAMPLE:
+            raise Refused(9, place)

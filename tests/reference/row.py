@@ -1,0 +1,45 @@
+"""Document 01, "Cards, rows, program": the row call and the one number that C gets from it."""
+
+from .pixel import hlg_codes
+from .refusal import Refused, refuse_peak, refuse_samples
+
+PIXEL_BYTES = 6
+WIDEST = 8_192
+
+
+def samples_of(row):
+    """The 16-bit samples of a row, high byte first."""
+    return [high << 8 | low for high, low in zip(row[0::2], row[1::2])]
+
+
+def pixels_of(samples):
+    """Samples in threes: red, green, blue."""
+    return list(zip(samples[0::3], samples[1::3], samples[2::3]))
+
+
+def convert_row(L, row, destination, first, end):
+    """Converts pixels first to end - 1 into the same places of `destination`, a bytearray.
+
+    Refusals 5 to 9 in this order; a refused call writes nothing.
+    """
+    refuse_peak(L)
+    if len(row) % PIXEL_BYTES or len(row) > PIXEL_BYTES * WIDEST:
+        raise Refused(6)
+    if len(destination) != len(row):
+        raise Refused(7)
+    if first > end or end > len(row) // PIXEL_BYTES:
+        raise Refused(8)
+    span = slice(PIXEL_BYTES * first, PIXEL_BYTES * end)
+    samples = samples_of(row[span])
+    refuse_samples(samples, 3 * first)
+    given = [code for pixel in pixels_of(samples) for code in hlg_codes(L, pixel)]
+    destination[span] = b"".join(code.to_bytes(2, "big") for code in given)
+
+
+def c_number(L, row, destination, first, end):
+    """What a host in C gets: 0, or the refusal plus 256 times its place."""
+    try:
+        convert_row(L, row, destination, first, end)
+    except Refused as refused:
+        return refused.number + 256 * refused.place
+    return 0
