@@ -2,7 +2,7 @@
 -- a = 0.17883277, b = 0.28466892 and c = 0.55991073 as exact decimals, here times 10^8.
 use mathlib.Core.Path.{_≡_}
 use mathlib.Core.Logic.{_⊎_}
-use Prim.Native.Nat.{ℕ, _+_, _-_, _*_, _≤_, _<_}
+use Prim.Native.Nat.{ℕ, _-_, _*_, _≤_, _<_}
 use Rattle.laws.specs.Fraction.{Fraction, whole, _·_}
 use Rattle.laws.specs.Side.{Side, other, Bounds}
 use Rattle.hlg_steps.specs.Exponential.{Exponential}

@@ -1,6 +1,6 @@
 -- The rule of the HLG steps (scope, HLG code: T[d]): the smallest scene light, in 1/2^40, whose HLG signal is at least e = (2d − 129)/1752.
 use mathlib.Core.Logic.{_⊎_}
-use Prim.Native.Nat.{ℕ, suc, _-_, _*_, _^_, _≤_, _<_}
+use Prim.Native.Nat.{ℕ, _-_, _*_, _^_, _≤_, _<_}
 use native.Mathlib.Nat.{zero-lt-suc}
 use lib.Pow.{pow-pos}
 use Rattle.laws.specs.Fraction.{Fraction, over}

@@ -5,7 +5,7 @@ use Prim.Native.Nat.{ℕ, _*_, _^_, _≤_, _<_}
 use native.Mathlib.Nat.{le-refl, mul-le-mul-right, mul-lt-mul-of-pos-right, le-of-mul-le-mul-right, lt-of-mul-lt-mul-right, pow-le-pow-left}
 use native.Mathlib.Omega.{arith}
 use Rattle.laws.specs.Fraction.{Fraction, _≼_, _≺_}
-use Rattle.laws.proofs.PowerLaws.{of-product, base-le}
+use Rattle.laws.proofs.PowerLaws.{of-product, base-lt, base-le}
 
 -- a / b ≤ c / d ≤ e / f
 pub cross-trans : (a b c d e f : ℕ) → 0 < d → a * d ≤ c * b → c * f ≤ e * d → a * f ≤ e * b
@@ -30,3 +30,10 @@ pub ≼-trans : {p q r : Fraction} → p ≼ q → q ≼ r → p ≼ r
 
 pub ≼-≺ : {p q r : Fraction} → p ≼ q → q ≺ r → p ≺ r
 ≼-≺ {p} {q} {r} h k = record { cross = cross-le-lt (p .num) (p .den) (q .num) (q .den) (r .num) (r .den) (p .pos) (q .pos) (h .cross) (k .cross) }
+
+-- a / b < c / d ≤ e / f
+pub cross-lt-le : (a b c d e f : ℕ) → 0 < f → a * d < c * b → c * f ≤ e * d → a * f < e * b
+cross-lt-le a b c d e f h x y = lt-of-mul-lt-mul-right d (omega (arith, mul-lt-mul-of-pos-right x h, mul-le-mul-right b y))
+
+pub cross-root-lt : (n a b c d : ℕ) → a ^ n * d ^ n < c ^ n * b ^ n → a * d < c * b
+cross-root-lt n a b c d h = base-lt n (subst₂ _<_ (sym (of-product a d n)) (sym (of-product c b n)) h)

@@ -5,3 +5,4 @@ pub mod DivisionLaws
 pub mod FractionLaws
 pub mod ComputedTests
 pub mod LargestLaws
+pub mod SideLaws

@@ -1,6 +1,5 @@
 -- Codes, positions and their lights (scope, Light: code, position). Light in units of 1/16,777,216 cd/m2, positions in 1/897,024 of the PQ signal.
 -- A light is read off a table given by its entries, P, so that a call on a lent table can be said too; the engine's is `lightEntry`.
-use mathlib.Core.Path.{_≡_}
 use Prim.Native.Nat.{ℕ, max, min, _+_, _-_, _*_, _/_, _%_, _≤_}
 use lib.Dec.{leb}
 use Rattle.laws.specs.Largest.{largest}

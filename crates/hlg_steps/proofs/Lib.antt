@@ -1,0 +1,7 @@
+pub mod SeriesLaws
+pub mod ExponentialLaws
+pub mod SignalTests
+pub mod LogarithmLaws
+pub mod SignalLaws
+pub mod StepTests
+pub mod StepLaws

@@ -1,0 +1,22 @@
+-- `hlg_steps::step_in` meets its contract: the place that `place_of` gives is the one of the definition.
+use mathlib.Core.Path.{ap}
+use Prim.Native.Nat.{ℕ}
+use lib.ListN.{getD}
+use borrow.Author.Needs.{needs}
+use Rattle.hlg_steps.proofs.step_in.Statement.{statement}
+use Rattle.hlg_steps.proofs.step_in.Tie as tie
+
+place-of-requires : tie.Need-place-of-requires
+place-of-requires c κs = search needs
+
+mul-t4 : tie.Need-mul-t4
+mul-t4 c = search needs
+
+element-copy-out-t7 : tie.Need-element-copy-out-t7
+element-copy-out-t7 c = search needs
+
+returns : tie.Need-returns
+returns c = ap (λ (i : ℕ). getD (c .before .before .args .table .now) i 0) (c .before .place-of .ensures)
+
+pub step-in-spec : {M : Type 1} → statement M
+step-in-spec = tie.close (tie.spec place-of-requires mul-t4 element-copy-out-t7 returns)

@@ -1,0 +1,3 @@
+pub mod LightLaws
+pub mod PositionLaws
+pub mod PeakLaws

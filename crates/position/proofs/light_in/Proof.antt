@@ -1,0 +1,49 @@
+-- `position::light_in` meets its contract, whatever the table holds: the part of a cell is at most the cell, so the sum is at most the higher entry.
+use Prim.Native.Nat.{ℕ, min}
+use lib.ListN.{getD}
+use borrow.Author.Needs.{needs}
+use Rattle.position.proofs.LightLaws.{level, sloped}
+use Rattle.position.proofs.light_in.Statement.{statement}
+use Rattle.position.proofs.light_in.Tie as tie
+
+entry-in-requires : tie.Need-entry-in-requires
+entry-in-requires c κs = search needs
+
+add-entry-in : tie.Need-add-entry-in
+add-entry-in c = search needs
+
+entry-in-requires-2 : tie.Need-entry-in-requires-2
+entry-in-requires-2 c κs = search needs
+
+returns : tie.Need-returns
+returns c =
+    let a = c .before .before .before .before .before .before .args in
+    level (λ (k : ℕ). getD (a .table .now) (min k 3504) 0) (a .q .0) _ _ (c .before .before .before .before .entry-in .ensures) (c .before .before .before .entry-in2 .ensures) (c .if1 .taken)
+
+sub-interpolate : tie.Need-sub-interpolate
+sub-interpolate c = search needs
+
+interpolate-requires : tie.Need-interpolate-requires
+interpolate-requires c κs = search needs
+
+add-t10 : tie.Need-add-t10
+add-t10 c = search needs
+
+returns-2 : tie.Need-returns-2
+returns-2 c =
+    let start = c .before .before .before .before .before .before .before .before .before in
+    let a = start .before .before .args in
+    sloped (λ (k : ℕ). getD (a .table .now) (min k 3504) 0) (a .q .0) _ _ _ (start .entry-in .ensures) (c .before .before .before .before .before .before .before .before .entry-in2 .ensures) (c .before .interpolate .ensures .0)
+
+pub light-in-spec : {M : Type 1} → statement M
+light-in-spec =
+    tie.close
+    (tie.spec
+    entry-in-requires
+    add-entry-in
+    entry-in-requires-2
+    returns
+    sub-interpolate
+    interpolate-requires
+    add-t10
+    returns-2)

@@ -1,0 +1,2 @@
+pub mod HalvesLaws
+pub mod NumberLaws
