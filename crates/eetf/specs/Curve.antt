@@ -10,6 +10,10 @@ use Rattle.position.specs.Position.{lightAtIn, positionOf}
 abbrev pub peakRead : ℕ → ℕ
 peakRead L = min (max L 1) 10000
 
+-- w, the position of a peak above 1,000 cd/m2, as it is read: from that of 1,001 to that of 10,000
+abbrev pub peakPositionRead : ℕ → ℕ
+peakPositionRead w = min (max w 674504) 897024
+
 -- floor(t − 4(w − m)³ / (27(w − t)²)) over its one denominator; from the knee on the difference is not negative
 unfoldable pub spline : ℕ → ℕ → ℕ → ℕ
 spline t w m = (27 * (w - t) ^ 2 * t - 4 * (w - m) ^ 3) / (27 * (w - t) ^ 2)

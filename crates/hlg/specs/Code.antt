@@ -1,4 +1,5 @@
 -- The HLG code of a mapped component (scope, HLG code): inverse OOTF with gamma 1.2, then the OETF. Light in units, steps in 1/2^40.
+use mathlib.Core.Path.{_≡_}
 use mathlib.Core.Bool.{Bool, _&&_}
 use Prim.Native.Nat.{ℕ, _+_, _*_, _^_}
 use lib.Dec.{leb, ltb}
@@ -17,3 +18,9 @@ reaches T Y R = ltb 0 R && leb (T ^ 6 * thousand ^ 5 * Y) (2 ^ 240 * 10000 * R ^
 -- the largest code from 65 to 1,019 whose step is reached, else 64
 unfoldable pub hlgCode : ℕ → ℕ → ℕ
 hlgCode Y R = largest (λ d. reaches (step d) Y R) 64 955
+
+-- the HLG codes r, g, b of a pixel whose mapped components are R, G, B
+pub record HlgCodes (R G B r g b : ℕ) : Type 0 where
+  pub red : r ≡ hlgCode (luminance R G B) R
+  pub green : g ≡ hlgCode (luminance R G B) G
+  pub blue : b ≡ hlgCode (luminance R G B) B

@@ -1,1 +1,1 @@
-// Definitions only so far.
+// The HLG code of mapped components: definitions and their laws.

@@ -1,5 +1,6 @@
 -- The entries of the light table: each obeys the rule, the rule leaves no choice, the entries grow, and the two ends.
 use mathlib.Core.Path.{_≡_, refl, sym, ap, subst}
+use mathlib.Core.List.{List}
 use Prim.Native.Nat.{ℕ, zero, suc, min, _+_, _≤_, _<_, zero-le}
 use native.Mathlib.Nat.{le-refl, le-trans, le-of-eq, le-antisymm, not-suc-le-zero, zero-lt-suc}
 use native.Mathlib.Numerals.{one-add}
@@ -15,7 +16,7 @@ use Rattle.pq.proofs.TableHints.{hints}
 use Rattle.pq.proofs.TableTest.{entries-pass, entries-rise}
 use Rattle.pq.proofs.PqLaws.{above-zero, lights-apart}
 
-table-length : length lightTable ≡ 3505
+pub table-length : length lightTable ≡ 3505
 unfolding lightTable
 table-length = refl
 
@@ -45,6 +46,11 @@ rule (suc k) l =
 pub entry-rule : (k : ℕ) → IsEntry (min k 3504) (lightEntry k)
 unfolding lightEntry
 entry-rule k = rule (min k 3504) (rw table-length (omega arith))
+
+-- what is read of the table, or of an array that holds it, at the nearest index
+pub entry-read : (t : List ℕ) (k : ℕ) → t ≡ lightTable → getD t (min k 3504) 0 ≡ lightEntry k
+unfolding lightEntry
+entry-read t k h = ap (λ u. getD u (min k 3504) 0) h
 
 -- ---- what the rule alone gives
 pub rule-grows : (i j p q : ℕ) → i ≤ j → IsEntry i p → IsEntry j q → p ≤ q
@@ -76,8 +82,8 @@ unfolding lightEntry
 entries-grow-strictly i j h l = rises lightTable entries-rise (min i 3504) (min j 3504) (omega arith) (rw table-length (omega arith))
 
 pub entry-first : lightEntry 0 ≡ 0
-unfolding lightEntry lightTable
-entry-first = refl
+unfolding lightEntry
+entry-first = first-entry
 
 pub entry-last : lightEntry 3504 ≡ tenThousand
 unfolding lightEntry lightTable units tenThousand

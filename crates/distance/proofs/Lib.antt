@@ -1,0 +1,14 @@
+pub mod CommonFactor
+pub mod SceneBounds
+pub mod AdditiveLaws
+pub mod RatioLaws
+pub mod NearLaws
+pub mod StepTests
+pub mod StepLaws
+pub mod CodeDistance
+pub mod PixelDistance
+pub mod LightLaws
+pub mod BentSignalLaws
+pub mod BentLightTests
+pub mod BentLightLaws
+pub mod Theorem

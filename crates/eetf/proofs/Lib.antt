@@ -1,0 +1,7 @@
+pub mod CubicLaws
+pub mod FloorLaws
+pub mod SplineLaws
+pub mod SignedLaws
+pub mod HermiteLaws
+pub mod CurveLaws
+pub mod MappingLaws

@@ -1,0 +1,2 @@
+pub mod ReachLaws
+pub mod CodeLaws

@@ -1,0 +1,4 @@
+pub mod PeakTests
+pub mod PeakWalk
+pub mod PeaksPass
+pub mod PeakSignals
