@@ -19,19 +19,13 @@ use Rattle.peaks.proofs.PeakSignals.{peak-between, thousand-low, thousand-high}
 use Rattle.eetf.specs.Curve.{kneeCurve, bentLight}
 use Rattle.eetf.proofs.SplineLaws.{curve, curve-stays, knee-curve-light}
 use Rattle.eetf.proofs.CurveLaws.{unbent, bent-by-curve, bent-le-self}
+use Rattle.pixel.proofs.PixelLaws.{place, bentTo}
 use Rattle.exact.specs.ExactValue.{signal, Value, Light, Ends, BentSignal, Bent, Smaller, BentLight}
 use Rattle.distance.proofs.NearLaws.{BentWithin}
 use Rattle.distance.proofs.LightLaws.{codeIndex, index-le, code-entry, code-low, code-light, light-low, light-high}
 use Rattle.distance.proofs.PixelDistance.{around}
 use Rattle.distance.proofs.BentSignalLaws.{Around, endsAround, are-around, straight, bent-low, bent-high, bent-range}
 use Rattle.distance.proofs.BentLightTests.{slow-at}
-
--- the curve's numbers for the brightest code D: its position, its light, and what that is mapped to
-abbrev pub place : ℕ → ℕ
-place D = 1024 * (codeRead D - 64)
-
-abbrev pub bentTo : ℕ → ℕ → ℕ
-bentTo peak D = bentLight peak (codeLight D) (place D)
 
 -- whole units on both sides of the bent light, within a ratio of it
 pub record Enclosure (p q peak D : ℕ) : Type 0 where

@@ -24,7 +24,7 @@ pub record Enclosed (peak : ℕ) (p : Pixel) (i : Component) (Inside : Fraction 
   pub signals : (s : Side) → Signal s peak p i (fraction s)
   pub inside : (s : Side) → Inside (fraction s)
 
--- the brightest component is a whole code or more below the knee: 2m + 2,048 ≤ 3t − w
+-- the brightest component is a whole code or more below the knee: 2m + 2,048 ≤ 3t − w. Where the curve cuts m at w, it fails with either m
 abbrev pub BelowKnee : ℕ → Pixel → Type 0
 BelowKnee peak p = 2 * (1024 * (codeRead (brightest p) - 64)) + 2048 + positionOf (peak * units) ≤ 3 * positionOf thousand
 

@@ -1,5 +1,6 @@
 -- The exact value of an HLG code before any rounding or table (scope, The exact value), enclosed stage by stage: a lower (`low`) or an upper
 -- (`high`) fraction of a stage follows from the unfavourable fractions of its inputs by the stage's own inequality. Light is in units.
+-- "x, of .." above a definition says that x is a fraction of that quantity, on the side s.
 use mathlib.Core.Path.{_≡_}
 use mathlib.Core.Logic.{_⊎_}
 use Prim.Native.Nat.{ℕ, min, _+_, _-_, _*_, _^_, _≤_, _<_}
@@ -37,11 +38,16 @@ pub record Ends (peak : ℕ) : Type 0 where
   pub H-value : (s : Side) → Value s (whole (peak * units)) (over (H s) q pos)
   pub apart : J high < H low
 
+-- H − X and H − J as the spline takes them: it falls with the first and rises with the second
+abbrev pub X-to-H : {peak : ℕ} → Side → Ends peak → ℕ → ℕ
+X-to-H s e X = e .H (other s) - X
+
+abbrev pub J-to-H : {peak : ℕ} → Side → Ends peak → ℕ
+J-to-H s e = e .H s - e .J (other s)
+
 -- v, of J − 4(H − X)³ / (27(H − J)²)
 abbrev pub Spline : {peak : ℕ} → Side → Ends peak → ℕ → ℕ → Type 0
-Spline s e X v =
-    let square = 27 * (e .H s - e .J (other s)) ^ 2 in
-    At s (4 * (e .H (other s) - X) ^ 3 + square * v) (square * e .J s)
+Spline s e X v = At s (4 * X-to-H s e X ^ 3 + 27 * J-to-H s e ^ 2 * v) (27 * J-to-H s e ^ 2 * e .J s)
 
 -- v, of the bent signal: X where 2X < 3J − H surely, the spline where surely not; where the fractions leave it open v must serve as both
 abbrev pub BentSignal : {peak : ℕ} → Side → Ends peak → ℕ → ℕ → Type 0
@@ -68,7 +74,7 @@ Smaller high X l = Bounds high l (whole thousand) ⊎ Light high X l
 unfoldable pub BentLight : Side → ℕ → Fraction → Fraction → Type 0
 BentLight s peak X l = ((peak ≤ 1000) × Smaller s X l) ⊎ ((1000 < peak) × Bent s peak X l)
 
--- r, of a component's result: its own light times the bent light over the brightest light
+-- r, of a component's result: its own light times the bent light over the brightest light, of which a fraction 0 does not serve
 pub record Result (s : Side) (peak : ℕ) (p : Pixel) (i : Component) (r : Fraction) : Type 0 where
   pub own : Fraction
   pub own-light : Light s (signal (p i)) own

@@ -1,8 +1,8 @@
 -- Laws of division rounded down and rounded up.
-use mathlib.Core.Path.{_≡_, sym, subst}
+use mathlib.Core.Path.{_≡_, sym, subst, subst₂}
 use mathlib.Core.Logic.{_↔_}
-use Prim.Native.Nat.{ℕ, suc, pred, _+_, _*_, _/_, _≤_, _<_}
-use native.Mathlib.Nat.{div-add-mod, mod-lt, div-eq-of-lt-le, lt-div-mul-add, suc-mul}
+use Prim.Native.Nat.{ℕ, zero, suc, pred, _+_, _*_, _/_, _≤_, _<_}
+use native.Mathlib.Nat.{le-refl, le-trans, zero-lt-suc, div-zero, div-add-mod, div-mul-le-self, le-div-iff-mul-le, mod-lt, div-eq-of-lt-le, lt-div-mul-add, suc-mul}
 use native.Mathlib.Omega.{arith}
 
 pub floor-le : (a b : ℕ) → a / b * b ≤ a
@@ -17,6 +17,10 @@ floor-is {q} {a} {b} p = (
   λ e. (subst (λ t. t * b ≤ a) (sym e) (floor-le a b), subst (λ t. a < (t + 1) * b) (sym e) (lt-floor a b p)),
   λ h. sym (div-eq-of-lt-le b (h .0) (h .1)),
 )
+
+pub floor-grows : (a b m : ℕ) → a ≤ b → a / m ≤ b / m
+floor-grows a b zero h = subst₂ _≤_ (sym (div-zero a)) (sym (div-zero b)) (le-refl zero)
+floor-grows a b (suc m) h = le-div-iff-mul-le (zero-lt-suc m) .1 (le-trans (div-mul-le-self a (suc m)) h)
 
 -- a / b rounded up; 1 where a is 0
 abbrev pub ceiling : ℕ → ℕ → ℕ

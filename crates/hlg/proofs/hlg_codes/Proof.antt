@@ -1,0 +1,74 @@
+-- `hlg::hlg_codes` meets its contract: components as read stay in the bounds of the search, which finds the code of each.
+use mathlib.Core.Path.{_≡_, _∙_, ap₂}
+use Prim.Native.Nat.{ℕ}
+use native.Mathlib.Omega.{arith}
+use lib.Dec.{lit<}
+use borrow.Author.Needs.{needs}
+use Rattle.laws.specs.Largest.{largest}
+use Rattle.quantity.specs.Units.{thousand}
+use Rattle.hlg_steps.specs.StepTable.{step}
+use Rattle.hlg.specs.Code.{luminance, reaches, hlgCode}
+use Rattle.hlg.proofs.hlg_codes.Statement.{statement}
+use Rattle.hlg.proofs.hlg_codes.Tie as tie
+
+read-component-requires : tie.Need-read-component-requires
+read-component-requires c κs = search needs
+
+read-component-requires-2 : tie.Need-read-component-requires-2
+read-component-requires-2 c κs = search needs
+
+read-component-requires-3 : tie.Need-read-component-requires-3
+read-component-requires-3 c κs = search needs
+
+weigh-requires : tie.Need-weigh-requires
+weigh-requires c κs = search needs
+
+step-table-requires : tie.Need-step-table-requires
+step-table-requires c κs = search needs
+
+search-code-requires : tie.Need-search-code-requires
+unfolding thousand
+search-code-requires c κs = (c .before .step-table .ensures, omega arith, omega arith, lit< tt)
+
+search-code-requires-2 : tie.Need-search-code-requires-2
+unfolding thousand
+search-code-requires-2 c κs = (c .before .before .before .step-table .ensures, omega arith, omega arith, lit< tt)
+
+search-code-requires-3 : tie.Need-search-code-requires-3
+unfolding thousand
+search-code-requires-3 c κs = (c .before .before .before .before .before .step-table .ensures, omega arith, omega arith, lit< tt)
+
+-- what the search finds, of a luminance and a component that are those of the definition
+coded : (d y r Y R : ℕ) → d ≡ largest (λ e. reaches (step e) y r) 64 955 → y ≡ Y → r ≡ R → d ≡ hlgCode Y R
+unfolding hlgCode
+coded d y r Y R e f g = e ∙ ap₂ hlgCode f g
+
+same : {r g b R G B : ℕ} → r ≡ R → g ≡ G → b ≡ B → luminance r g b ≡ luminance R G B
+same e f h = cc
+
+returns : tie.Need-returns
+returns c =
+    let weighed = c .before .before .before .before .before .before .before in
+    let r = weighed .before .before .before .read-component in
+    let g = weighed .before .before .read-component2 in
+    let b = weighed .before .read-component3 in
+    let y = weighed .weigh .ensures ∙ same (r .ensures) (g .ensures) (b .ensures) in
+    record {
+      red = coded _ _ _ _ _ (c .before .before .before .before .search-code .ensures) y (r .ensures);
+      green = coded _ _ _ _ _ (c .before .before .search-code2 .ensures) y (g .ensures);
+      blue = coded _ _ _ _ _ (c .search-code3 .ensures) y (b .ensures);
+    }
+
+pub hlg-codes-spec : {M : Type 1} → statement M
+hlg-codes-spec =
+    tie.close
+    (tie.spec
+    read-component-requires
+    read-component-requires-2
+    read-component-requires-3
+    weigh-requires
+    step-table-requires
+    search-code-requires
+    search-code-requires-2
+    search-code-requires-3
+    returns)

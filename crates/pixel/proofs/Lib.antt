@@ -1,0 +1,3 @@
+pub mod PixelLaws
+pub mod OrderLaws
+pub mod CornerPixels
