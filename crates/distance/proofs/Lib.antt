@@ -12,3 +12,4 @@ pub mod BentSignalLaws
 pub mod BentLightTests
 pub mod BentLightLaws
 pub mod Theorem
+pub mod BoundLaws

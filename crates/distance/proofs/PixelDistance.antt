@@ -12,7 +12,7 @@ use Rattle.quantity.specs.Component.{Component, red, green, blue, Pixel, bright
 use Rattle.hlg_steps.specs.Steps.{thresholdSignal}
 use Rattle.hlg.specs.Code.{hlgCode}
 use Rattle.exact.specs.ExactValue.{signal, Light, BentLight, Result, SceneLight, Signal}
-use Rattle.exact.specs.Demand.{LessThanTwo, NineSixteenths, Enclosed}
+use Rattle.distance.specs.Demand.{LessThanTwo, NineSixteenths, Enclosed}
 use Rattle.distance.proofs.CommonFactor.{Code, code-is}
 use Rattle.distance.proofs.SceneBounds.{weigh, Scaled, scene-bounds}
 use Rattle.distance.proofs.NearLaws.{BentWithin, Near, Mapped, mapped-le, brightest-pos, near}

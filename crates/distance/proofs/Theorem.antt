@@ -12,10 +12,10 @@ use Rattle.position.specs.Position.{codeRead, codeLight, positionOf}
 use Rattle.position.proofs.PeakLaws.{thousand-position}
 use Rattle.eetf.specs.Curve.{mappedLight}
 use Rattle.pixel.specs.Conversion.{brightestLight, bent, mapped, code}
-use Rattle.pixel.proofs.PixelLaws.{one-of, each-le, light-of-brightest, place, bentTo, bent-of-brightest, bent-le, mapped-dark, capped}
+use Rattle.pixel.proofs.PixelLaws.{one-of, each-le, light-of-brightest, place, bentTo, bent-of-brightest, bent-le, mapped-dark, mapped-at-most}
 use Rattle.pixel.proofs.OrderLaws.{ordered, greys}
 use Rattle.exact.specs.ExactValue.{signal}
-use Rattle.exact.specs.Demand.{LessThanTwo, NineSixteenths, Enclosed, BelowKnee, Voted, Demand}
+use Rattle.distance.specs.Demand.{LessThanTwo, NineSixteenths, Enclosed, BelowKnee, Voted, Demand}
 use Rattle.distance.proofs.NearLaws.{floor, Mapped}
 use Rattle.distance.proofs.LightLaws.{unlit, code-light}
 use Rattle.distance.proofs.PixelDistance.{Lights, within-sixteenths, within-two, nearer-near, black}
@@ -96,16 +96,16 @@ module _ (peak : ℕ) (p : Pixel) (most : peak ≤ 10000) where
   below (inr h) = inr (omega (arith, thousand-position))
 
 -- the voted property at each peak and pixel, and over all of them
-pub voted : (peak : ℕ) (p : Pixel) → peak ≤ 10000 → Voted mapped code peak p
+pub voted : (peak : ℕ) (p : Pixel) → peak ≤ 10000 → Voted peak p
 voted peak p most =
     record {
       near = near peak p most;
       nearer = λ c. nearer peak p most (below peak p most c);
-      capped = capped peak p;
+      capped = mapped-at-most peak p;
       ordered = ordered peak p;
       greys = λ c d from l to. greys peak c d l;
     }
 
-pub demand : Demand mapped code
+pub demand : Demand
 unfolding Demand
 demand peak some most p codes = voted peak p most

@@ -1,18 +1,14 @@
--- What the exact value admits: no lower fraction of an HLG signal exceeds an upper one, so two codes that meet a bound are as near each
--- other as twice the bound allows.
-use mathlib.Core.Path.{_≡_}
+-- No lower fraction of an HLG signal exceeds an upper one, for every peak, pixel and component.
 use mathlib.Core.Logic.{inl, inr}
-use Prim.Native.Nat.{ℕ, _+_, _-_, _*_, _≤_, _<_}
-use native.Mathlib.Nat.{mul-pos, mul-le-mul-right, mul-lt-mul-of-pos-right, le-of-mul-le-mul-right, lt-of-mul-lt-mul-right}
+use Prim.Native.Nat.{ℕ}
 use native.Mathlib.Omega.{arith}
 use Rattle.laws.specs.Fraction.{Fraction, _≼_}
 use Rattle.laws.specs.Side.{low, high}
 use Rattle.laws.proofs.FractionLaws.{zero-≼}
-use Rattle.quantity.specs.Component.{Component, Pixel, brightest}
+use Rattle.quantity.specs.Component.{Component, Pixel}
 use Rattle.hlg_steps.specs.Steps.{scene}
 use Rattle.hlg_steps.proofs.SignalLaws as hlg
-use Rattle.exact.specs.ExactValue.{signal, Signal}
-use Rattle.exact.specs.Demand.{LessThanTwo, NineSixteenths, Enclosed}
+use Rattle.exact.specs.ExactValue.{Signal}
 use Rattle.exact.proofs.SceneLaws.{scene-lights-apart}
 
 pub signal-ordered : (peak : ℕ) (p : Pixel) (i : Component) {g h : Fraction} → Signal low peak p i g → Signal high peak p i h → g ≼ h
@@ -24,52 +20,3 @@ signal-ordered peak p i {g} {h} (inr a) (inr b) =
     let F = scene (b .1 .0) in
     let grows : E ≼ F = record { cross = omega (arith, scene-lights-apart _ _ (a .0) (a .1 .1) (b .1 .1) .cross) } in
     hlg.signal-ordered F g h (hlg.signal-of-more E F g grows (a .1 .2)) (b .1 .2)
-
--- ---- codes
-module _ (peak : ℕ) (p : Pixel) (i : Component) where
-  enclosures-ordered : {A B : Fraction → Type 0} (x : Enclosed peak p i A) (y : Enclosed peak p i B) → x .fraction low ≼ y .fraction high
-  enclosures-ordered x y = signal-ordered peak p i (x .signals low) (y .signals high)
-
-  pub near-codes : (c d : ℕ) → Enclosed peak p i (LessThanTwo c) → Enclosed peak p i (LessThanTwo d) → c < d + 4
-  near-codes c d x y = go (x .fraction low) (y .fraction high) (enclosures-ordered x y) (x .inside low) (y .inside high)
-    where
-      go : (g h : Fraction) → g ≼ h → LessThanTwo c g → LessThanTwo d h → c < d + 4
-      go g h o u v =
-          lt-of-mul-lt-mul-right (g .den * h .den)
-          (omega (arith, o .cross, mul-lt-mul-of-pos-right (u .above) (h .pos), mul-lt-mul-of-pos-right (v .below) (g .pos)))
-
-  pub nearer-codes : (c d : ℕ) → Enclosed peak p i (NineSixteenths c) → Enclosed peak p i (NineSixteenths d) → 8 * c ≤ 8 * d + 9
-  nearer-codes c d x y = go (x .fraction low) (y .fraction high) (enclosures-ordered x y) (x .inside low) (y .inside high)
-    where
-      go : (g h : Fraction) → g ≼ h → NineSixteenths c g → NineSixteenths d h → 8 * c ≤ 8 * d + 9
-      go g h o u v =
-          le-of-mul-le-mul-right {k = g .den * h .den}
-          (omega (arith, o .cross, mul-le-mul-right (h .den) (u .above), mul-le-mul-right (g .den) (v .below))) (mul-pos (g .pos) (h .pos))
-
-  -- which for whole codes is one at most
-  pub neighbours : (c d : ℕ) → Enclosed peak p i (NineSixteenths c) → Enclosed peak p i (NineSixteenths d) → c ≤ d + 1
-  neighbours c d x y = omega (arith, nearer-codes c d x y)
-
-  -- in a black pixel the bounds admit the codes 63 to 65, and 64
-  black : (g : Fraction) → signal (brightest p) .num ≡ 0 → Signal low peak p i g → g .num ≡ 0
-  unfolding Signal
-  black g e (inl a) = omega (arith, a .1)
-  black g e (inr a) = absurd (omega (arith, a .0))
-
-  pub black-near : (d : ℕ) → signal (brightest p) .num ≡ 0 → Enclosed peak p i (LessThanTwo d) → (63 ≤ d) × (d ≤ 65)
-  black-near d e x = go (x .fraction low) (black (x .fraction low) e (x .signals low)) (x .inside low)
-    where
-      go : (g : Fraction) → g .num ≡ 0 → LessThanTwo d g → (63 ≤ d) × (d ≤ 65)
-      go g z u =
-          let more : 62 < d = lt-of-mul-lt-mul-right (g .den) (omega (arith, u .below)) in
-          let less : d < 66 = lt-of-mul-lt-mul-right (g .den) (omega (arith, u .above)) in
-          (more, omega arith)
-
-  pub black-nearer : (d : ℕ) → signal (brightest p) .num ≡ 0 → Enclosed peak p i (NineSixteenths d) → d ≡ 64
-  black-nearer d e x = go (x .fraction low) (black (x .fraction low) e (x .signals low)) (x .inside low)
-    where
-      go : (g : Fraction) → g .num ≡ 0 → NineSixteenths d g → d ≡ 64
-      go g z u =
-          let more : 16 * d ≤ 16 * 64 + 9 = le-of-mul-le-mul-right {k = g .den} (omega (arith, u .above)) (g .pos) in
-          let less : 16 * 64 ≤ 16 * d + 9 = le-of-mul-le-mul-right {k = g .den} (omega (arith, u .below)) (g .pos) in
-          omega arith

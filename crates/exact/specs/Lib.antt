@@ -1,2 +1,1 @@
 pub mod ExactValue
-pub mod Demand

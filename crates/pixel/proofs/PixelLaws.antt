@@ -5,14 +5,16 @@ use Prim.Native.Nat.{ℕ, max, _-_, _*_, _≤_, _<_}
 use native.Mathlib.Nat.{le-trans, le-of-eq, le-antisymm, zero-div, zero-mul}
 use native.Mathlib.Decide.{decLe}
 use native.Mathlib.Omega.{arith}
-use Rattle.quantity.specs.Units.{thousand}
+use Rattle.quantity.specs.Units.{thousand, tenThousand, lastPosition}
 use Rattle.quantity.specs.Component.{Component, red, green, blue, Pixel, brightest}
 use Rattle.position.specs.Position.{codeRead, codeLight, lightAt}
-use Rattle.position.proofs.LightLaws.{code-light-at, code-light-grows}
+use Rattle.position.proofs.LightLaws.{light-at-most, code-light-at, code-light-grows}
 use Rattle.eetf.specs.Curve.{bentLight, mappedLight}
 use Rattle.eetf.proofs.CurveLaws.{bent-le-thousand, bent-grows}
 use Rattle.eetf.proofs.MappingLaws.{ratio-le}
-use Rattle.pixel.specs.Conversion.{brightestLight, brightestPosition, bent, mapped}
+use Rattle.hlg.specs.Code.{luminance}
+use Rattle.hlg.proofs.CodeLaws.{code-to}
+use Rattle.pixel.specs.Conversion.{brightestLight, brightestPosition, bent, mapped, code}
 
 -- ---- the largest of three
 pub one-of : (p : Pixel) → (p red ≡ brightest p) ⊎ ((p green ≡ brightest p) ⊎ (p blue ≡ brightest p))
@@ -79,13 +81,26 @@ pub mapped-dark : (peak : ℕ) (p : Pixel) → brightestLight p ≡ 0 → (i : C
 unfolding mapped mappedLight
 mapped-dark peak p h i = rw (dark p h i, zero-mul (bent peak p)) (zero-div (brightestLight p))
 
--- ---- no mapped component exceeds the bent light, nor 1,000 cd/m2
-own-le : (p : Pixel) (i : Component) → codeLight (p i) ≤ brightestLight p
+-- ---- the ranges of lights, positions and codes
+pub component-le : (p : Pixel) (i : Component) → codeLight (p i) ≤ brightestLight p
 unfolding brightestLight
-own-le p i = each-le (λ j. codeLight (p j)) i
+component-le p i = each-le (λ j. codeLight (p j)) i
 
-pub capped : (peak : ℕ) (p : Pixel) (i : Component) → mapped peak p i ≤ thousand
+pub brightest-light-at-most : (p : Pixel) → brightestLight p ≤ tenThousand
+brightest-light-at-most p = omega (arith, light-of-brightest p, code-light-at (brightest p), light-at-most (place (brightest p)))
+
+pub brightest-position-range : (p : Pixel) → brightestPosition p ≤ lastPosition
+unfolding brightestPosition lastPosition
+brightest-position-range p = omega arith
+
+pub bent-at-most : (peak : ℕ) (p : Pixel) → bent peak p ≤ thousand
+bent-at-most peak p = le-trans (le-of-eq (bent-of-brightest peak p)) (bent-le peak (brightest p))
+
+pub mapped-at-most : (peak : ℕ) (p : Pixel) (i : Component) → mapped peak p i ≤ thousand
 unfolding mapped mappedLight
-capped peak p i =
-    le-trans (ratio-le (codeLight (p i)) (brightestLight p) (bent peak p) (own-le p i))
-    (le-trans (le-of-eq (bent-of-brightest peak p)) (bent-le peak (brightest p)))
+mapped-at-most peak p i =
+    le-trans (ratio-le (codeLight (p i)) (brightestLight p) (bent peak p) (component-le p i)) (bent-at-most peak p)
+
+pub code-range : (peak : ℕ) (p : Pixel) (i : Component) → code peak p i ≤ 1019
+unfolding code
+code-range peak p i = code-to (luminance (mapped peak p red) (mapped peak p green) (mapped peak p blue)) (mapped peak p i)

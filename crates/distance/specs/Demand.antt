@@ -6,7 +6,8 @@ use Rattle.laws.specs.Side.{Side}
 use Rattle.quantity.specs.Units.{units, thousand}
 use Rattle.quantity.specs.Component.{Component, Pixel, brightest}
 use Rattle.position.specs.Position.{codeRead, codeLight, positionOf}
+use Rattle.pixel.specs.Conversion.{mapped, code}
 use Rattle.exact.specs.ExactValue.{Signal}
 
 -- 64 + 876g lies less than two codes from d
 pub record LessThanTwo (d : ℕ) (g : Fraction) : Type 0 where
@@ -28,8 +29,8 @@ pub record Enclosed (peak : ℕ) (p : Pixel) (i : Component) (Inside : Fraction 
 abbrev pub BelowKnee : ℕ → Pixel → Type 0
 BelowKnee peak p = 2 * (1024 * (codeRead (brightest p) - 64)) + 2048 + positionOf (peak * units) ≤ 3 * positionOf thousand
 
--- demand 3 at one peak and one pixel, of given mapped components and HLG codes
-pub record Voted (mapped code : ℕ → Pixel → Component → ℕ) (peak : ℕ) (p : Pixel) : Type 0 where
+-- demand 3 at one peak and one pixel
+pub record Voted (peak : ℕ) (p : Pixel) : Type 0 where
   -- each code lies less than two codes from its exact value
   pub near : (i : Component) → Enclosed peak p i (LessThanTwo (code peak p i))
   -- and at most 9/16 of a code where the curve does not bend, or not yet
@@ -42,5 +43,5 @@ pub record Voted (mapped code : ℕ → Pixel → Component → ℕ) (peak : ℕ
   pub greys : (c d : ℕ) → 4 ≤ c → c ≤ d → d ≤ 1019 → (i j : Component) → code peak (λ k. c) i ≤ code peak (λ k. d) j
 
 -- for every peak from 1 to 10,000 and every pixel of codes from 4 to 1,019
-unfoldable pub Demand : (mapped code : ℕ → Pixel → Component → ℕ) → Type 0
-Demand mapped code = (peak : ℕ) → 1 ≤ peak → peak ≤ 10000 → (p : Pixel) → ((i : Component) → (4 ≤ p i) × (p i ≤ 1019)) → Voted mapped code peak p
+unfoldable pub Demand : Type 0
+Demand = (peak : ℕ) → 1 ≤ peak → peak ≤ 10000 → (p : Pixel) → ((i : Component) → (4 ≤ p i) × (p i ≤ 1019)) → Voted peak p
