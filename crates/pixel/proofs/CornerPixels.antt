@@ -56,7 +56,7 @@ first-code = record { to-red = refl; to-green = refl; to-blue = refl }
 -- ---- black, under any peak
 dark : (peak : ℕ) (p : Pixel) → brightestLight p ≡ 0 → (i : Component) → code peak p i ≡ 64
 unfolding code
-dark peak p h i = ap (hlgCode (luminance (mapped peak p red) (mapped peak p green) (mapped peak p blue))) (mapped-dark peak p h i) ∙ code-black _
+dark peak p h i = ap (hlgCode _) (mapped-dark peak p h i) ∙ code-black _
 
 no-light : (c : ℕ) → codeLight c ≡ 0 → brightestLight (pixel c c c) ≡ 0
 unfolding brightestLight

@@ -12,7 +12,6 @@ use Rattle.position.proofs.LightLaws.{light-at-most, code-light-at, code-light-
 use Rattle.eetf.specs.Curve.{bentLight, mappedLight}
 use Rattle.eetf.proofs.CurveLaws.{bent-le-thousand, bent-grows}
 use Rattle.eetf.proofs.MappingLaws.{ratio-le}
-use Rattle.hlg.specs.Code.{luminance}
 use Rattle.hlg.proofs.CodeLaws.{code-to}
 use Rattle.pixel.specs.Conversion.{brightestLight, brightestPosition, bent, mapped, code}
 
@@ -103,4 +102,4 @@ mapped-at-most peak p i =
 
 pub code-range : (peak : ℕ) (p : Pixel) (i : Component) → code peak p i ≤ 1019
 unfolding code
-code-range peak p i = code-to (luminance (mapped peak p red) (mapped peak p green) (mapped peak p blue)) (mapped peak p i)
+code-range peak p i = code-to _ _

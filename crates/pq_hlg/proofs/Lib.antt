@@ -1,0 +1,3 @@
+pub mod CodesLaws
+pub mod TestLaws
+pub mod RowLaws

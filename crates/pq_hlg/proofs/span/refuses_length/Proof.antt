@@ -1,0 +1,16 @@
+-- `pq_hlg::span::refuses_length` meets its contract: its two tests are the definition's.
+use borrow.Author.Tests.{eq-eqb, ne-eqb}
+use Rattle.pq_hlg.specs.Row.{lengthRefused}
+use Rattle.pq_hlg.proofs.span.refuses_length.Statement.{statement}
+use Rattle.pq_hlg.proofs.span.refuses_length.Tie as tie
+
+returns : tie.Need-returns
+unfolding lengthRefused
+returns c = simp (ne-eqb _ _ (c .if1 .taken))
+
+returns-2 : tie.Need-returns-2
+unfolding lengthRefused
+returns-2 c = simp (eq-eqb _ _ (c .if1 .left))
+
+pub refuses-length-spec : {M : Type 1} → statement M
+refuses-length-spec = tie.close (tie.spec returns returns-2)

@@ -1,0 +1,34 @@
+/* The row call from C: a grey of 1,000 cd/m2 and a red of the same code, then a refused sample.
+     rt staticlib pq_hlg
+     gcc -O2 -Wall -Werror -Iinclude tests/host/example.c target/staticlib/libpq_hlg.a -o target/host/example_c
+     target/host/example_c */
+#include <inttypes.h>
+#include <stdio.h>
+
+#include "pq_hlg.h"
+
+static void put_sample(uint8_t *row, size_t i, unsigned code) {
+    row[2 * i] = (uint8_t)(code >> 8);
+    row[2 * i + 1] = (uint8_t)(code & 255);
+}
+
+static unsigned sample(const uint8_t *row, size_t i) {
+    return 256u * row[2 * i] + row[2 * i + 1];
+}
+
+int main(void) {
+    const unsigned codes[6] = {723, 723, 723, 723, 64, 64};
+    uint8_t row[12], dst[12] = {0};
+    for (size_t i = 0; i < 6; i++)
+        put_sample(row, i, codes[i]);
+
+    uint64_t number = pq_hlg_convert_row(1000, row, sizeof row, dst, sizeof dst, 0, 2);
+    printf("%" PRIu64 "\n", number);
+    for (size_t j = 0; j < 2; j++)
+        printf("%u %u %u\n", sample(dst, 3 * j), sample(dst, 3 * j + 1), sample(dst, 3 * j + 2));
+
+    put_sample(row, 4, 1020);
+    number = pq_hlg_convert_row(1000, row, sizeof row, dst, sizeof dst, 1, 2);
+    printf("refused %" PRIu64 " at sample %" PRIu64 "\n", number % 256, number / 256);
+    return 0;
+}

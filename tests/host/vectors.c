@@ -1,0 +1,89 @@
+/* The stored vectors of the second implementation (tests/vectors/rows.txt and pixels.txt) through the row call from C.
+   tests/reference/README.md says what a line holds; a pixel is a row of one pixel here, so samples past 16 bits are left out.
+     gcc -O2 -Wall -Werror -Iinclude tests/host/vectors.c target/staticlib/libpq_hlg.a -o target/host/vectors_c
+     target/host/vectors_c tests/vectors/rows.txt tests/vectors/pixels.txt */
+#include <inttypes.h>
+#include <stdio.h>
+#include <stdlib.h>
+#include <string.h>
+
+#include "pq_hlg.h"
+
+enum { LONGEST = 65536, UNWRITTEN = 0xa5 };
+
+static uint8_t row[LONGEST], dst[LONGEST], expected[LONGEST];
+
+/* "-", COUNT*BYTE or hexadecimal digits; gives the number of bytes. */
+static size_t read_bytes(const char *text, uint8_t *bytes) {
+    unsigned byte;
+    size_t count = 0;
+    if (strcmp(text, "-") == 0)
+        return 0;
+    if (sscanf(text, "%zu*%2x", &count, &byte) == 2 && count <= LONGEST && strchr(text, '*')) {
+        memset(bytes, (int)byte, count);
+        return count;
+    }
+    for (count = 0; count < LONGEST && sscanf(text + 2 * count, "%2x", &byte) == 1; count++)
+        bytes[count] = (uint8_t)byte;
+    return count;
+}
+
+static void must_match(int holds, const char *file, unsigned line) {
+    if (!holds) {
+        fprintf(stderr, "%s:%u: another answer\n", file, line);
+        exit(1);
+    }
+}
+
+static unsigned test_rows(const char *file) {
+    FILE *in = fopen(file, "r");
+    char source[512], after[512];
+    uint64_t peak, number;
+    size_t first, end, len;
+    unsigned line = 0;
+    while (in && fscanf(in, "%" SCNu64 " %zu %zu %511s %zu %" SCNu64 " %511s", &peak, &first, &end, source, &len, &number, after) == 7) {
+        line++;
+        size_t bytes = read_bytes(source, row);
+        memset(dst, UNWRITTEN, LONGEST);
+        memset(expected, UNWRITTEN, LONGEST);
+        if (strcmp(after, "same") != 0)
+            read_bytes(after, expected);
+        must_match(pq_hlg_convert_row(peak, row, bytes, dst, len, first, end) == number, file, line);
+        must_match(memcmp(dst, expected, LONGEST) == 0, file, line);
+    }
+    return line;
+}
+
+static unsigned test_pixels(const char *file) {
+    FILE *in = fopen(file, "r");
+    char first[32];
+    uint64_t peak, sample[3], code[3];
+    unsigned line = 0;
+    while (in && fscanf(in, "%" SCNu64 " %" SCNu64 " %" SCNu64 " %" SCNu64 " %31s %" SCNu64 " %" SCNu64,
+                        &peak, sample, sample + 1, sample + 2, first, code + 1, code + 2) == 7) {
+        line++;
+        if (sample[0] > 65535 || sample[1] > 65535 || sample[2] > 65535)
+            continue;
+        int refused = strcmp(first, "refused") == 0;
+        code[0] = refused ? 0 : strtoull(first, NULL, 10);
+        memset(dst, UNWRITTEN, 6);
+        for (int i = 0; i < 3; i++) {
+            row[2 * i] = (uint8_t)(sample[i] >> 8);
+            row[2 * i + 1] = (uint8_t)sample[i];
+            expected[2 * i] = refused ? UNWRITTEN : (uint8_t)(code[i] >> 8);
+            expected[2 * i + 1] = refused ? UNWRITTEN : (uint8_t)code[i];
+        }
+        uint64_t number = pq_hlg_convert_row(peak, row, 6, dst, 6, 0, 1);
+        must_match(number == (refused ? code[1] + 256 * code[2] : 0), file, line);
+        must_match(memcmp(dst, expected, 6) == 0, file, line);
+    }
+    return line;
+}
+
+int main(int argc, char **argv) {
+    if (argc != 3)
+        return 2;
+    unsigned rows = test_rows(argv[1]), pixels = test_pixels(argv[2]);
+    printf("%u rows, %u pixels\n", rows, pixels);
+    return rows == 0 || pixels == 0;
+}
