@@ -1,9 +1,10 @@
 """Stored vectors: what the second implementation answers, for the engine to be run against.
 
-    python3 -m tests.reference.vectors            writes tests/vectors
+    python3 -m tests.reference.vectors            writes tests/vectors and the files of the programs
     python3 -m tests.reference.vectors --check    compares only, and fails on any difference
 
-README.md gives the forms of the files.
+The files of a program are stdin and stdout in its crate's folder; they are skipped where that
+folder does not exist. README.md gives the forms of the files.
 """
 
 import sys
@@ -19,7 +20,8 @@ from .refusal import Refused
 from .row import c_number
 from .samples import code_of_peak, draw_peaks, draw_pixel, knee_code
 
-FOLDER = Path(__file__).resolve().parent.parent / "vectors"
+ROOT = Path(__file__).resolve().parents[2]
+FOLDER = "tests/vectors"
 SEED = 2_100
 PEAKS, DRAWN = 240, 76
 FILL = 0xA5                    # what a destination holds before the row call
@@ -62,13 +64,22 @@ def pixel_cases():
     yield from refused_pixels()
 
 
-def pixel_line(L, pixel):
-    """`peak r g b R G B`, or `peak r g b refused NUMBER PLACE`."""
+def pixel_answer(L, pixel):
+    """`R G B`, or `refused NUMBER PLACE`."""
     try:
-        answer = convert_pixel(L, pixel)
+        return "%d %d %d" % convert_pixel(L, pixel)
     except Refused as refused:
-        answer = "refused", refused.number, refused.place
-    return " ".join(map(str, (L, *pixel, *answer)))
+        return f"refused {refused.number} {refused.place}"
+
+
+def pixel_line(L, pixel, answer):
+    """`peak r g b`, then the answer."""
+    return " ".join(map(str, (L, *pixel, answer)))
+
+
+def pixel_question(L, pixel):
+    """Peak, red, green and blue, 8 bytes each, high byte first."""
+    return b"".join(number.to_bytes(8, "big") for number in (L, *pixel))
 
 
 def digits(data):
@@ -106,38 +117,63 @@ def lines(each):
     return "".join(line + "\n" for line in dict.fromkeys(each)).encode()
 
 
-def files():
-    """Every stored file: its path in the folder and its bytes."""
-    yield "pixels.txt", lines(pixel_line(*case) for case in pixel_cases())
-    yield "rows.txt", lines(row_line(*case) for case in row_calls())
-    yield "cards.txt", lines(map(card_line, cards()))
+def vector_files(pixels):
+    """Every file of tests/vectors: its path and its bytes."""
+    yield f"{FOLDER}/pixels.txt", lines(pixel_line(*case, answer) for case, answer in pixels.items())
+    yield f"{FOLDER}/rows.txt", lines(row_line(*case) for case in row_calls())
+    yield f"{FOLDER}/cards.txt", lines(map(card_line, cards()))
     for name, data in titles():
-        yield f"convert/{name}.in", data
-        yield f"convert/{name}.out", converted(data)
+        yield f"{FOLDER}/convert/{name}.in", data
+        yield f"{FOLDER}/convert/{name}.out", converted(data)
 
 
-def differences(stored, folder):
-    """What is missing, different or left over in the folder."""
+def programs(pixels):
+    """What each program is run on: its crate, its input and the output that it owes."""
+    sample = dict(titles())["sample"]
+    yield "convert", sample, converted(sample)
+    questions = b"".join(pixel_question(*case) for case in pixels)
+    yield "pixel_vectors", questions, "".join(answer + "\n" for answer in pixels.values()).encode()
+
+
+def program_files(pixels):
+    """Standard input and output of the programs whose crates are there; says which are not."""
+    for crate, given, owed in programs(pixels):
+        if (ROOT / "crates" / crate).is_dir():
+            yield f"crates/{crate}/stdin", given
+            yield f"crates/{crate}/stdout", owed
+        else:
+            print(f"skipped: crates/{crate} does not exist")
+
+
+def files():
+    """Every stored file: its path in the repository and its bytes."""
+    pixels = {case: pixel_answer(*case) for case in pixel_cases()}
+    yield from vector_files(pixels)
+    yield from program_files(pixels)
+
+
+def differences(stored):
+    """What is missing, different or left over."""
     for path, data in stored.items():
-        file = folder / path
+        file = ROOT / path
         if not file.is_file():
             yield f"missing: {path}"
         elif file.read_bytes() != data:
             yield f"differs: {path}"
-    for file in sorted(folder.glob("convert/*")):
-        if str(file.relative_to(folder)) not in stored:
-            yield f"left over: {file.relative_to(folder)}"
+    for file in sorted(ROOT.glob(f"{FOLDER}/convert/*")):
+        if str(file.relative_to(ROOT)) not in stored:
+            yield f"left over: {file.relative_to(ROOT)}"
 
 
 def main(arguments):
     stored = dict(files())
     if "--check" in arguments:
-        found = list(differences(stored, FOLDER))
+        found = list(differences(stored))
         print("\n".join(found) if found else f"{len(stored)} files as stored")
         return 1 if found else 0
-    (FOLDER / "convert").mkdir(parents=True, exist_ok=True)
+    (ROOT / FOLDER / "convert").mkdir(parents=True, exist_ok=True)
     for path, data in stored.items():
-        (FOLDER / path).write_bytes(data)
+        (ROOT / path).write_bytes(data)
     print(f"{len(stored)} files, {sum(map(len, stored.values()))} bytes")
     return 0
 
