@@ -30,7 +30,7 @@ static size_t read_bytes(const char *text, uint8_t *bytes) {
 
 static void must_match(int holds, const char *file, unsigned line) {
     if (!holds) {
-        fprintf(stderr, "%s:%u: another answer\n", file, line);
+        fprintf(stderr, "%s:%u: another answer, or no vector\n", file, line);
         exit(1);
     }
 }
@@ -51,10 +51,11 @@ static unsigned test_rows(const char *file) {
         must_match(pq_hlg_convert_row(peak, row, bytes, dst, len, first, end) == number, file, line);
         must_match(memcmp(dst, expected, LONGEST) == 0, file, line);
     }
+    must_match(line > 0 && feof(in), file, line + 1);
     return line;
 }
 
-static unsigned test_pixels(const char *file) {
+static unsigned test_pixels(const char *file, unsigned *left_out) {
     FILE *in = fopen(file, "r");
     char first[32];
     uint64_t peak, sample[3], code[3];
@@ -62,8 +63,10 @@ static unsigned test_pixels(const char *file) {
     while (in && fscanf(in, "%" SCNu64 " %" SCNu64 " %" SCNu64 " %" SCNu64 " %31s %" SCNu64 " %" SCNu64,
                         &peak, sample, sample + 1, sample + 2, first, code + 1, code + 2) == 7) {
         line++;
-        if (sample[0] > 65535 || sample[1] > 65535 || sample[2] > 65535)
+        if (sample[0] > 65535 || sample[1] > 65535 || sample[2] > 65535) {
+            ++*left_out;
             continue;
+        }
         int refused = strcmp(first, "refused") == 0;
         code[0] = refused ? 0 : strtoull(first, NULL, 10);
         memset(dst, UNWRITTEN, 6);
@@ -77,13 +80,14 @@ static unsigned test_pixels(const char *file) {
         must_match(number == (refused ? code[1] + 256 * code[2] : 0), file, line);
         must_match(memcmp(dst, expected, 6) == 0, file, line);
     }
-    return line;
+    must_match(line > 0 && feof(in), file, line + 1);
+    return line - *left_out;
 }
 
 int main(int argc, char **argv) {
     if (argc != 3)
         return 2;
-    unsigned rows = test_rows(argv[1]), pixels = test_pixels(argv[2]);
-    printf("%u rows, %u pixels\n", rows, pixels);
-    return rows == 0 || pixels == 0;
+    unsigned left_out = 0, rows = test_rows(argv[1]), pixels = test_pixels(argv[2], &left_out);
+    printf("%u rows and %u pixels as stored, %u left out\n", rows, pixels, left_out);
+    return 0;
 }
