@@ -15,7 +15,7 @@ from random import Random
 from .cases import cards, row_calls, titles
 from .metadata import after_metadata, peak_of_metadata
 from .pixel import convert_pixel
-from .program import convert_title
+from .program import MOST_ROWS, convert_title
 from .refusal import Refused
 from .row import c_number
 from .samples import code_of_peak, draw_peaks, draw_pixel, knee_code
@@ -105,10 +105,10 @@ def card_line(data):
         return f"{digits(data)} refused {refused.number}"
 
 
-def converted(data):
+def converted(data, most_rows=MOST_ROWS):
     """What the program prints for an input."""
     printed = []
-    convert_title(BytesIO(data).read, printed.append)
+    convert_title(BytesIO(data).read, printed.append, most_rows)
     return "".join(printed).encode()
 
 
@@ -131,6 +131,9 @@ def programs(pixels):
     """What each program is run on: its crate, its input and the output that it owes."""
     sample = dict(titles())["sample"]
     yield "convert", sample, converted(sample)
+    # two rows and what would be refused in a third
+    past_limit = sample + sample[5:] + bytes.fromhex("00 00 FF")
+    yield "title_limit", past_limit, converted(past_limit, 2)
     questions = b"".join(pixel_question(*case) for case in pixels)
     yield "pixel_vectors", questions, "".join(answer + "\n" for answer in pixels.values()).encode()
 

@@ -1,0 +1,33 @@
+-- `listing::list_refusal` meets its contract: the word, the number and the line feed, one after another.
+use mathlib.Core.Path.{refl}
+use native.Mathlib.Omega.{arith}
+use borrow.Author.Tests.{lt-leb, le-leb}
+use Rattle.listing.specs.Text.{refusalLine, refusalLineWithin}
+use Rattle.listing.proofs.TextLaws.{after, from-start, length-decimal, refusal-short}
+use borrow.Author.Needs.{needs}
+use Rattle.listing.proofs.list_refusal.Statement.{statement}
+use Rattle.listing.proofs.list_refusal.Tie as tie
+
+returns : tie.Need-returns
+unfolding refusalLineWithin
+returns c = simp (lt-leb _ _ (c .if1 .taken)) (refl, refl)
+
+put-word-requires : tie.Need-put-word-requires
+put-word-requires c κs = search needs
+
+put-number-requires : tie.Need-put-number-requires
+put-number-requires c κs =
+    omega (arith, length-decimal 19 (c .before .before .before .before .before .before .before .args .number) (omega (arith, c .before .before .before .before .before .before .before .fits .number)), c .before .before .before .put-word .ensures .place)
+
+same-length : tie.Need-same-length
+same-length c = search needs
+
+returns-2 : tie.Need-returns-2
+unfolding refusalLineWithin refusalLine
+returns-2 c =
+    simp (le-leb _ _ (c .before .before .before .before .before .before .before .before .if1 .left))
+    (from-start (after (c .before .before .before .before .before .before .put-word .ensures) (c .before .before .put-number .ensures)) (omega (arith, refusal-short (c .before .before .before .before .before .before .before .before .before .before .args .number) (omega (arith, c .before .before .before .before .before .before .before .before .before .before .fits .number)))))
+
+pub list-refusal-spec : {M : Type 1} → statement M
+list-refusal-spec =
+    tie.close (tie.spec returns put-word-requires put-number-requires same-length returns-2)

@@ -1,0 +1,30 @@
+-- `listing::put_line` meets its contract: three numbers, one after another.
+use native.Mathlib.Omega.{arith}
+use lib.ListN.{length-append}
+use Rattle.listing.proofs.TextLaws.{after, line-parts, length-line}
+use borrow.Author.Needs.{needs}
+use Rattle.listing.proofs.put_line.Statement.{statement}
+use Rattle.listing.proofs.put_line.Tie as tie
+
+put-number-requires : tie.Need-put-number-requires
+put-number-requires c κs = omega (arith, rw length-line at (c .before .before .pre))
+
+put-number-requires-2 : tie.Need-put-number-requires-2
+put-number-requires-2 c κs =
+    omega (arith, rw length-line at (c .before .before .before .before .before .before .pre), simp length-append at (c .before .before .before .put-number .ensures .place))
+
+put-number-requires-3 : tie.Need-put-number-requires-3
+put-number-requires-3 c κs =
+    omega (arith, rw length-line at (c .before .before .before .before .before .before .before .before .before .before .pre), simp length-append at (c .before .before .before .before .before .before .before .put-number .ensures .place), simp length-append at (c .before .before .before .put-number2 .ensures .place))
+
+same-length : tie.Need-same-length
+same-length c = search needs
+
+returns : tie.Need-returns
+returns c =
+    rw line-parts (after (after (c .before .before .before .before .before .before .before .before .before .before .put-number .ensures) (c .before .before .before .before .before .before .put-number2 .ensures)) (c .before .before .put-number3 .ensures))
+
+pub put-line-spec : {M : Type 1} → statement M
+put-line-spec =
+    tie.close
+    (tie.spec put-number-requires put-number-requires-2 put-number-requires-3 same-length returns)
