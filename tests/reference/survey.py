@@ -52,21 +52,26 @@ def bent_light(D, L):
     return 10_000 * (max(root - c1, 0.0) / (c2 - c3 * root)) ** (1 / m1)
 
 
-def quick_distance(L, pixel):
-    """The largest distance of the pixel's three codes, in double precision."""
+def distance_of(L, pixel, codes):
+    """The largest distance of a pixel's three HLG codes, in double precision."""
     read = [code_read(D) for D in pixel]
     brightest = max(read)
     if brightest == 64:
-        return float(max(hlg_codes(L, pixel)) - 64)
+        return float(max(codes) - 64)
     ratio = bent_light(brightest, L) / code_light(brightest) / 1_000
     red, green, blue = (code_light(D) * ratio for D in read)
     root = (0.2627 * red + 0.6780 * green + 0.0593 * blue) ** (1 / 6)
     worst = 0.0
-    for code, light in zip(hlg_codes(L, pixel), (red, green, blue)):
+    for code, light in zip(codes, (red, green, blue)):
         E = light / root
         signal = math.sqrt(3 * E) if E <= 1 / 12 else a * math.log(12 * E - b) + c
         worst = max(worst, abs(code - 64 - 876 * signal))
     return worst
+
+
+def quick_distance(L, pixel):
+    """The same of the codes that the second implementation gives."""
+    return distance_of(L, pixel, hlg_codes(L, pixel))
 
 
 def held_to_nine_sixteenths(L, pixel):

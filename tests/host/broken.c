@@ -1,0 +1,137 @@
+/* Engines with one fault each, made of the right one: broken.py renames the
+ * library's call to right_row and builds this with -DWRONG=NAME_OF_A_FAULT.
+ */
+#include "pq_hlg.h"
+
+#define CALL uint64_t peak, const uint8_t *row, size_t row_len, uint8_t *dst, size_t dst_len, size_t first, size_t end
+#define GIVEN peak, row, row_len, dst, dst_len, first, end
+
+uint64_t right_row(CALL);
+
+static int peak_sound(uint64_t peak)
+{
+    return 1 <= peak && peak <= 10000;
+}
+
+/* 7 is tested before 6. */
+static uint64_t destination_before_row(CALL)
+{
+    return peak_sound(peak) && dst_len != row_len ? 7 : right_row(GIVEN);
+}
+
+/* 8 is tested before 7. */
+static uint64_t span_before_destination(CALL)
+{
+    uint64_t number = right_row(GIVEN);
+    return number == 7 && (first > end || end > row_len / 6) ? 8 : number;
+}
+
+/* 5 is tested after the others; a call that would be converted is not. */
+static uint64_t peak_tested_last(CALL)
+{
+    if (peak_sound(peak))
+        return right_row(GIVEN);
+    if (row_len % 6 || row_len > 49152)
+        return 6;
+    return dst_len != row_len ? 7 : 5;
+}
+
+/* The product 6 * end is tested instead of end, and wraps round. */
+static uint64_t span_wraps(CALL)
+{
+    uint64_t number = right_row(GIVEN);
+    return number == 8 && first <= end && 6 * end <= row_len ? 0 : number;
+}
+
+/* Peaks are cut to 32 bits. */
+static uint64_t peak_cut_short(CALL)
+{
+    return right_row((uint32_t)peak, row, row_len, dst, dst_len, first, end);
+}
+
+/* The place is counted from the span's first pixel. */
+static uint64_t place_in_span(CALL)
+{
+    uint64_t number = right_row(GIVEN);
+    return number % 256 == 9 ? number - 256 * 3 * first : number;
+}
+
+static uint64_t refuses_highest_peak(CALL)
+{
+    return peak == 10000 ? 5 : right_row(GIVEN);
+}
+
+/* A refusal of a sample leaves one byte written. */
+static uint64_t refused_call_writes(CALL)
+{
+    uint64_t number = right_row(GIVEN);
+    if (number % 256 == 9)
+        dst[6 * first] ^= 1;
+    return number;
+}
+
+static uint64_t last_pixel_left_out(CALL)
+{
+    return right_row(peak, row, row_len, dst, dst_len, first, end > first ? end - 1 : end);
+}
+
+/* The byte after the span is cleared. */
+static uint64_t byte_after_span(CALL)
+{
+    uint64_t number = right_row(GIVEN);
+    if (!number && 6 * end < dst_len)
+        dst[6 * end] = 0;
+    return number;
+}
+
+/* The byte after the destination is written with what it held. */
+static uint64_t byte_after_destination(CALL)
+{
+    uint64_t number = right_row(GIVEN);
+    volatile uint8_t *after = dst + dst_len;
+    if (!number && dst_len)
+        *after = *after;
+    return number;
+}
+
+static uint64_t byte_before_destination(CALL)
+{
+    uint64_t number = right_row(GIVEN);
+    if (!number && dst_len)
+        dst[-1] = 0;
+    return number;
+}
+
+/* A byte is read after the row. */
+static uint64_t reads_after_row(CALL)
+{
+    const volatile uint8_t *after = row + row_len;
+    if (row_len && row_len <= 49152)
+        (void)*after;
+    return right_row(GIVEN);
+}
+
+/* One code is one too large, in blue only and for one brightest code. */
+static uint64_t one_code_off(CALL)
+{
+    uint64_t number = right_row(GIVEN);
+    for (size_t p = first; !number && p < end; p++)
+        if (row[6 * p] == 2 && row[6 * p + 1] == 211 && dst[6 * p + 5] == 172)
+            dst[6 * p + 5] = 173;
+    return number;
+}
+
+/* HLG is cut at 940, so that pure colours lose their overshoot. */
+static uint64_t cut_at_940(CALL)
+{
+    uint64_t number = right_row(GIVEN);
+    for (size_t i = 3 * first; !number && i < 3 * end; i++)
+        if (dst[2 * i] == 3 && dst[2 * i + 1] > 172)
+            dst[2 * i + 1] = 172;
+    return number;
+}
+
+uint64_t pq_hlg_convert_row(CALL)
+{
+    return WRONG(GIVEN);
+}

@@ -1,0 +1,264 @@
+"""Compares the engine's row call, through the static library, with the second implementation.
+
+    python3 -m tests.host.compare [--short] [--seed N] [--only PART ...] [--library FILE]
+
+Every number and every destination byte is compared. README.md says what is tried.
+"""
+
+import argparse
+import shutil
+import sys
+import time
+from collections import Counter
+from itertools import islice
+from pathlib import Path
+from random import Random
+
+from tests.reference.curve import bend_code
+from tests.reference.row import c_number, pixels_of, samples_of
+from tests.reference.samples import MARKED_PEAKS, draw_peaks, draw_pixel
+from tests.reference.survey import bent_light, draw_case
+
+from . import greys
+from .damaged import calls_of_lengths, draw_damaged, draw_options, named_calls
+from .distances import Distances
+from .engine import HARM, LIBRARY, Broken, Call, ask, build, reachable
+
+BATCH = 500                              # calls of one run of the C program
+ROW_PIXELS = 100                         # pixels drawn for one peak
+RAMP = bytes(range(256)) * 300           # what destinations hold before a call
+SIX_BYTES = [code.to_bytes(2, "big") * 3 for code in range(1_020)]
+
+FULL = {"random": 1_000_000, "adversarial": 500_000, "greys": 10_000, "damaged": 150_000,
+        "lengths": 49_159, "sanitizer": 5_000, "valgrind": 400, "sampled": 2_000}
+SHORT = {"random": 100_000, "adversarial": 60_000, "greys": 500, "damaged": 25_000,
+         "lengths": 1_000, "sanitizer": 1_000, "valgrind": 200, "sampled": 200}
+
+
+class Difference(Exception):
+    """The engine and the second implementation disagree."""
+
+
+class Progress:
+    """One line now and then, and one at the end of a part."""
+
+    def __init__(self, part, whole, unit):
+        self.part, self.whole, self.unit = part, whole, unit
+        self.done, self.start = 0, time.monotonic()
+        self.shown = self.start
+
+    def line(self, end=""):
+        seconds = time.monotonic() - self.start
+        print(f"{self.part}: {self.done:,} of {self.whole:,} {self.unit}, {seconds:.0f} s{end}", flush=True)
+
+    def step(self, count):
+        self.done += count
+        if time.monotonic() - self.shown > 10:
+            self.shown = time.monotonic()
+            self.line()
+
+
+def destination_before(call):
+    """A destination as compare.c fills it; one that cannot be touched has only a length."""
+    start = call.options % 256
+    return bytearray(RAMP[start:start + call.dst_len]) if reachable(call.dst_len) else range(call.dst_len)
+
+
+def wanted_answer(call):
+    """Number and destination by the second implementation."""
+    destination = destination_before(call)
+    number = c_number(call.peak, call.row, destination, call.first, call.end)
+    return number, bytes(destination) if reachable(call.dst_len) else b""
+
+
+def first_difference(call, given, wanted):
+    """Where two destinations differ, in words."""
+    at = next(i for i, pair in enumerate(zip(given, wanted)) if pair[0] != pair[1])
+    pixel = at // 6
+    words = f"byte {at} is {given[at]}, should be {wanted[at]}"
+    if call.first <= pixel < call.end <= len(call.row) // 6:
+        source, got, due = (tuple(samples_of(data[6 * pixel:6 * pixel + 6])) for data in (call.row, given, wanted))
+        words += f"; pixel {pixel}, {source}, became {got}, should be {due}"
+    return words
+
+
+def hold(call, answer, wanted):
+    """Fails unless an answer is the wanted one and nothing else was written."""
+    number, destination = wanted
+    if answer.harm:
+        raise Difference(f"{call}: " + ", ".join(what for bit, what in HARM.items() if answer.harm & bit))
+    if answer.number != number:
+        raise Difference(f"{call}: number {answer.number}, should be {number}")
+    if answer.destination != destination:
+        raise Difference(f"{call}: " + first_difference(call, answer.destination, destination))
+
+
+def batches(calls, size=BATCH):
+    """Lists of calls."""
+    calls = iter(calls)
+    while batch := list(islice(calls, size)):
+        yield batch
+
+
+def compared(command, calls):
+    """Each call with its answer, once the answer was found right."""
+    for batch in batches(calls):
+        for call, answer in zip(batch, ask(command, batch)):
+            hold(call, answer, wanted_answer(call))
+            yield call, answer
+
+
+def row_of(pixels):
+    """The bytes of a row."""
+    return b"".join(sample.to_bytes(2, "big") for pixel in pixels for sample in pixel)
+
+
+def whole_row(random, L, pixels):
+    """A call that converts all of a row."""
+    row = row_of(pixels)
+    return Call(L, row, len(row), 0, len(pixels), draw_options(random))
+
+
+def random_rows(random, count):
+    """Pixels drawn evenly from all accepted ones, a random peak to each row."""
+    for _ in range(count // ROW_PIXELS):
+        yield whole_row(random, random.randint(1, 10_000),
+                        [tuple(random.choices(greys.CODES, k=3)) for _ in range(ROW_PIXELS)])
+
+
+def adversarial_rows(random, count):
+    """Pixels where it is delicate: beside the knee and the peak, above it, a bright component beside
+    dim ones, blacks; and the ones that the survey of distances draws."""
+    peaks = draw_peaks(random, 2_000)
+    for _ in range(count // ROW_PIXELS):
+        L, pixel = draw_case(random, peaks)
+        yield whole_row(random, L, [pixel] + [draw_pixel(random, L) for _ in range(ROW_PIXELS - 1)])
+
+
+def compare_pixels(part, rows, count, engine, distances):
+    """Rows of drawn pixels, with the distances of their codes."""
+    progress = Progress(part, count, "pixels")
+    for call, answer in compared(engine, rows):
+        pixels, codes = (pixels_of(samples_of(data)) for data in (call.row, answer.destination))
+        for pixel, given in zip(pixels, codes):
+            distances.add(call.peak, pixel, given)
+        progress.step(len(pixels))
+        bend_code.cache_clear()
+        bent_light.cache_clear()
+    progress.line(", no difference")
+    return progress.done
+
+
+def compare_greys(random, count, engine, distances):
+    """Every grey from 4 to 1,019 under each peak, or under `count` peaks."""
+    greys.check(random, 500)
+    peaks = range(1, 10_001) if count >= 10_000 else sorted(
+        {*MARKED_PEAKS, *random.sample(range(1, 10_001), count - len(MARKED_PEAKS))})
+    row = row_of((D, D, D) for D in greys.CODES)
+    progress = Progress("greys", len(peaks), f"peaks with {len(greys.CODES):,} codes each")
+    measured = None
+    for batch in batches((Call(L, row, len(row), 0, len(greys.CODES), draw_options(random)) for L in peaks), 100):
+        for call, answer in zip(batch, ask(engine, batch)):
+            codes = greys.grey_codes(call.peak)
+            hold(call, answer, (0, b"".join([SIX_BYTES[code] for code in codes])))
+            if codes != sorted(codes):
+                raise Difference(f"{call}: a larger grey has a smaller code")
+            if codes != measured or call.peak > 1_000:      # low peaks all give the same codes
+                measured = codes
+                for D in range(64, 941):
+                    code = codes[D - greys.CODES[0]]
+                    distances.add(call.peak, (D, D, D), (code, code, code))
+                bent_light.cache_clear()
+        progress.step(len(batch))
+    progress.line(", no difference")
+    return progress.done * len(greys.CODES)
+
+
+def damaged_calls(random, count):
+    """Named calls, then calls with things wrong by lot."""
+    named = list(islice(named_calls(random), count // 2))
+    yield from named
+    for _ in range(count - len(named)):
+        yield draw_damaged(random)
+
+
+def compare_calls(part, calls, count, engine):
+    """Calls that may be refused. Returns the pixels converted and how often each number came."""
+    progress, seen, pixels = Progress(part, count, "calls"), Counter(), 0
+    for call, answer in compared(engine, calls):
+        seen[answer.number % 256] += 1
+        pixels += 0 if answer.number else call.end - call.first
+        progress.step(1)
+        if progress.done % BATCH == 0:
+            bend_code.cache_clear()
+    progress.line(", no difference; accepted {}, refused {}".format(
+        seen[0], ", ".join(f"{number}: {seen[number]}" for number in range(5, 10))))
+    return pixels, seen
+
+
+def compare_damaged(part, random, count, engine):
+    """Damaged calls; each refusal must have occurred."""
+    pixels, seen = compare_calls(part, damaged_calls(random, count), count, engine)
+    if set(seen) != {0, 5, 6, 7, 8, 9}:
+        raise Difference(f"{part}: not every refusal occurred, but {sorted(seen)}")
+    return pixels
+
+
+def watched_by_valgrind(program):
+    """A command whose reads and writes outside the heap's blocks make it fail."""
+    if not shutil.which("valgrind"):
+        raise SystemExit("valgrind is not installed; leave it out by --only")
+    return ["valgrind", "-q", "--error-exitcode=9", program]
+
+
+def run(sizes, seed, parts, library):
+    """All parts; prints what was compared. True if demand 3's bounds hold as well."""
+    engine = [build("pages", library)]
+    distances = Distances(max(1, (sizes["random"] + sizes["adversarial"]) // sizes["sampled"]))
+    pixels = calls = 0
+    for part in parts:
+        size, random = sizes[part], Random(f"{part} {seed}")
+        if part == "random":
+            pixels += compare_pixels(part, random_rows(random, size), size, engine, distances)
+        elif part == "adversarial":
+            pixels += compare_pixels(part, adversarial_rows(random, size), size, engine, distances)
+        elif part == "greys":
+            pixels += compare_greys(random, size, engine, distances)
+        else:
+            calls += size
+            if part == "lengths":
+                pixels += compare_calls(part, calls_of_lengths(random, size), size, engine)[0]
+            elif part == "damaged":
+                pixels += compare_damaged(part, random, size, engine)
+            elif part == "sanitizer":
+                pixels += compare_damaged(part, random, size, [build(part, library)])
+            else:
+                pixels += compare_damaged(part, random, size, watched_by_valgrind(build("heap", library)))
+    sound = distances.report() if distances.count else True
+    print(f"{pixels:,} pixels and {calls:,} calls, damaged or not, compared: every number and byte equal")
+    return sound
+
+
+def main(arguments):
+    parser = argparse.ArgumentParser(description=__doc__.split("\n")[0])
+    parts = ("random", "adversarial", "greys", "lengths", "damaged", "sanitizer", "valgrind")
+    parser.add_argument("--short", action="store_true", help="the gate's sample instead of everything")
+    parser.add_argument("--seed", type=int, default=1, help="what is drawn by lot (1)")
+    parser.add_argument("--only", nargs="+", choices=parts, default=parts, metavar="PART", help=", ".join(parts))
+    parser.add_argument("--library", type=Path, default=LIBRARY, help="the static library to try")
+    options = parser.parse_args(arguments)
+    start = time.monotonic()
+    print(f"seed {options.seed}, {options.library.name}")
+    try:
+        sound = run(SHORT if options.short else FULL, options.seed, options.only, options.library)
+    except (Difference, Broken) as found:
+        print(f"DIFFERENT: {found}")
+        return 1
+    print(f"{time.monotonic() - start:.0f} s")
+    if not sound:
+        print("DIFFERENT: a code is farther from its exact value than was voted")
+    return 0 if sound else 1
+
+
+if __name__ == "__main__":
+    sys.exit(main(sys.argv[1:]))

@@ -1,0 +1,105 @@
+"""The static library, called through compare.c: calls go in as bytes, answers come back.
+
+Nothing here knows what an answer should be.
+"""
+
+import struct
+import subprocess
+from functools import lru_cache
+from pathlib import Path
+from tempfile import TemporaryDirectory
+from typing import NamedTuple
+
+ROOT = Path(__file__).resolve().parent.parent.parent
+LIBRARY = ROOT / "target/staticlib/libpq_hlg.a"
+TARGET = ROOT / "target"
+
+LONGEST = 65_536               # longer rows and destinations cannot be touched; as in compare.c
+ROW_AT_START, DST_AT_START, ROW_NULL, DST_NULL = 256, 512, 1_024, 2_048
+HARM = {1: "the row was changed", 2: "bytes beside the row were changed",
+        4: "bytes beside the destination were changed"}
+CALL = struct.Struct("=6Q")
+ANSWER = struct.Struct("=2Q")
+FLAGS = {
+    "pages": ["-O2"],
+    "sanitizer": ["-O1", "-g", "-fsanitize=address,undefined", "-fno-sanitize-recover=all", "-DHEAP=64"],
+    "heap": ["-O1", "-g", "-DHEAP=0"],
+}
+
+
+class Call(NamedTuple):
+    """One row call. A destination's byte i holds options + i before it, modulo 256."""
+    peak: int
+    row: bytes                 # or a range, whose length counts alone
+    dst_len: int
+    first: int
+    end: int
+    options: int = 0
+
+    def __str__(self):
+        return (f"peak {self.peak}, row of {len(self.row)} bytes, destination of {self.dst_len}, "
+                f"first {self.first}, end {self.end}, options {self.options:#x}")
+
+
+class Answer(NamedTuple):
+    """The C number, what was harmed, and the destination's bytes."""
+    number: int
+    harm: int
+    destination: bytes
+
+
+class Broken(Exception):
+    """The library ended the program that called it."""
+
+
+@lru_cache(maxsize=None)
+def own_folder():
+    """A folder of this run alone, so that two runs at once don't take each other's programs."""
+    TARGET.mkdir(exist_ok=True)
+    return TemporaryDirectory(prefix="host-", dir=TARGET)
+
+
+def build(kind, library=LIBRARY):
+    """Compiles compare.c with the library; returns the program's path."""
+    if not library.exists():
+        raise SystemExit(f"there is no {library}: run `rt staticlib pq_hlg` first")
+    program = Path(own_folder().name) / f"compare_{kind}"
+    subprocess.run(["cc", "-std=c11", "-D_GNU_SOURCE", "-Wall", "-Wextra", "-Werror", *FLAGS[kind],
+                    "-I", ROOT / "include", ROOT / "tests/host/compare.c", library, "-o", program],
+                   check=True)
+    return program
+
+
+def reachable(length):
+    """Whether so many bytes go through the stream."""
+    return length <= LONGEST
+
+
+def bytes_of(call):
+    """A call in the stream."""
+    head = CALL.pack(call.peak, len(call.row), call.dst_len, call.first, call.end, call.options)
+    return head + call.row if reachable(len(call.row)) else head
+
+
+def answers_in(stream, calls):
+    """The answers of a stream, one a call, as far as they are whole."""
+    at = 0
+    for call in calls:
+        length = call.dst_len if reachable(call.dst_len) else 0
+        if len(stream) < at + ANSWER.size + length:
+            return
+        number, harm = ANSWER.unpack_from(stream, at)
+        at += ANSWER.size
+        yield Answer(number, harm, stream[at:at + length])
+        at += length
+
+
+def ask(command, calls):
+    """The engine's answers to a list of calls, from one run of a program."""
+    run = subprocess.run(command, input=b"".join(map(bytes_of, calls)), capture_output=True)
+    answers = list(answers_in(run.stdout, calls))
+    if len(answers) < len(calls):
+        raise Broken(f"ended with {run.returncode} at: {calls[len(answers)]}\n{run.stderr.decode(errors='replace')}")
+    if run.returncode:
+        raise Broken(f"ended with {run.returncode} after the last call\n{run.stderr.decode(errors='replace')}")
+    return answers
