@@ -171,7 +171,7 @@ def highlight_curve():
 def published_patches():
     """Document 003's maxRGB table: 4,000 cd/m2 patches bent to 1,000.
 
-    Its figures passed through code values and agree with the formulas to 3 parts in 10,000."""
+    Its figures agree with the formulas to 3 parts in 10,000."""
     patches = (("3009.9 182.92 0", "998.32 60.681 0"), ("793 3763.9 70.3", "210.72 1000.00 18.678"),
                ("189.92 49.826 3929.4", "48.341 12.682 1000.00"))
     for source, target in patches:
