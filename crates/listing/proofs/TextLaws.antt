@@ -1,13 +1,11 @@
 -- Laws of the printed text, from its definitions: a number's digits one by one, how many there are, and a text stored piece by piece.
 use mathlib.Core.Path.{_≡_, refl, sym, ap, _∙_}
-use mathlib.Core.Bool.{cond}
 use mathlib.Core.List.{List, [], _∷_, _++_, append-assoc}
 use Prim.Native.Nat.{ℕ, zero, suc, _+_, _/_, _%_, _^_, _≤_, _<_}
 use native.Mathlib.Nat.{add-suc, suc-add, add-zero, zero-add, pow-suc, div-lt-iff-lt-mul}
 use native.Mathlib.Numerals.{add-one}
 use native.Mathlib.Omega.{arith}
 use native.Mathlib.Decide.{decLt}
-use lib.Dec.{ltb}
 use lib.ListN.{length, length-append, set}
 use lib.Seq.{sets, sets-eq}
 use borrow.Author.Tests.{lt-ltb, le-ltb}
@@ -20,9 +18,7 @@ unfolding digitsOf
 digits-same zero zero n h g = refl
 digits-same zero (suc k) n h g = simp (lt-ltb n 10 (omega arith))
 digits-same (suc m) zero n h g = simp (lt-ltb n 10 (omega arith))
-digits-same (suc m) (suc k) n h g =
-    ap (λ (d : List ℕ). cond (ltb n 10) (digit n ∷ []) (d ++ (digit (n % 10) ∷ [])))
-    (digits-same m k (n / 10) (omega arith) (omega arith))
+digits-same (suc m) (suc k) n h g = rw (digits-same m k (n / 10) (omega arith) (omega arith))
 
 pub decimal-digit : (n : ℕ) → n < 10 → decimal n ≡ digit n ∷ []
 unfolding decimal digitsOf
@@ -33,7 +29,7 @@ pub decimal-more : (n : ℕ) → 10 ≤ n → decimal n ≡ decimal (n / 10) ++ 
 unfolding decimal digitsOf
 decimal-more zero h = absurd (omega arith)
 decimal-more (suc n) h =
-    simp (le-ltb (suc n) 10 h) (ap (λ (d : List ℕ). d ++ (digit (suc n % 10) ∷ [])) (digits-same n (suc n / 10) (suc n / 10) (omega arith) (omega arith)))
+    simp (le-ltb (suc n) 10 h, digits-same n (suc n / 10) (suc n / 10) (omega arith) (omega arith))
 
 -- a number below a power of ten has at most as many digits
 pub length-decimal : (k n : ℕ) → n < 10 ^ suc k → length (decimal n) ≤ suc k

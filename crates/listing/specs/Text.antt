@@ -19,7 +19,7 @@ unfoldable pub digitsOf : ℕ → ℕ → List ℕ
 digitsOf zero n = digit n ∷ []
 digitsOf (suc more) n = cond (ltb n 10) (digit n ∷ []) (digitsOf more (n / 10) ++ (digit (n % 10) ∷ []))
 
--- scope, program: a number in decimal. It has fewer than n digits after its first, or is 0
+-- scope, program: a number in decimal, which never has more than n digits after its first
 unfoldable pub decimal : ℕ → List ℕ
 decimal n = digitsOf n n
 
