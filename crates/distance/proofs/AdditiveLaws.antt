@@ -1,8 +1,7 @@
 -- A few units more or less of a component and of the luminance take only so much room in the scene light.
-use mathlib.Core.Path.{_≡_, refl, sym, _∙_, ap, subst, subst₂}
-use mathlib.Core.Logic.{_≢_}
-use Prim.Native.Nat.{ℕ, zero, suc, _+_, _-_, _*_, _^_, _≤_, _<_}
-use native.Mathlib.Nat.{le-trans, le-of-lt, lt-of-lt-of-le, mul-le-mul, mul-le-mul-left, mul-le-mul-right, le-of-mul-le-mul-left, le-of-mul-le-mul-right, mul-pos, pow-le-pow-left, one-le-pow, lt-of-not-le, zero-lt-suc, sub-eq-zero-of-le, not-le-of-lt}
+use mathlib.Core.Path.{_≡_, sym, ap, subst, subst₂}
+use Prim.Native.Nat.{ℕ, _+_, _-_, _*_, _^_, _≤_, _<_}
+use native.Mathlib.Nat.{le-trans, le-of-lt, mul-le-mul-left, mul-le-mul-right, le-of-mul-le-mul-left, le-of-mul-le-mul-right, mul-pos, pow-le-pow-left, one-le-pow, lt-of-not-le, sub-eq-zero-of-le, not-le-of-lt}
 use native.Mathlib.Decide.{decLe}
 use native.Mathlib.Omega.{arith}
 use Rattle.laws.proofs.PowerLaws.{of-product, base-le}

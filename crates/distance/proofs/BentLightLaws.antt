@@ -1,17 +1,16 @@
 -- The bent light of every pixel that is not black, enclosed by whole units: within a unit where the curve doesn't bend it, else within the ratio 361 / 360.
 use mathlib.Core.Path.{_≡_, refl, sym, _∙_, ap, subst}
 use mathlib.Core.Logic.{_⊎_, inl, inr}
-use Prim.Native.Nat.{ℕ, pred, max, min, _+_, _-_, _*_, _/_, _≤_, _<_}
-use native.Mathlib.Nat.{zero-lt-suc, le-refl, le-trans, mul-le-mul-left, lt-of-not-le}
+use Prim.Native.Nat.{ℕ, pred, min, _+_, _-_, _*_, _/_, _≤_, _<_}
+use native.Mathlib.Nat.{le-refl}
 use native.Mathlib.Decide.{decLe}
 use native.Mathlib.Omega.{arith}
-use Rattle.laws.specs.Fraction.{Fraction, over, whole, _≼_}
+use Rattle.laws.specs.Fraction.{whole}
 use Rattle.laws.specs.Side.{Side, low, high}
 use Rattle.quantity.specs.Units.{units, thousand, lastPosition}
-use Rattle.quantity.specs.Component.{Pixel, brightest}
-use Rattle.pq.specs.Pq.{indexSignal, positionSignal}
+use Rattle.pq.specs.Pq.{positionSignal}
 use Rattle.pq.specs.LightTable.{lightTable, lightEntry}
-use Rattle.position.specs.Position.{codeRead, codeLight, lightAt, lightAtIn, positionOf}
+use Rattle.position.specs.Position.{codeLight, lightAt, positionOf}
 use Rattle.position.proofs.LightLaws.{light-grows, light-at-entry, code-light-at}
 use Rattle.position.proofs.PositionLaws.{position-is}
 use Rattle.position.proofs.PeakLaws.{thousand-position, peak-past}

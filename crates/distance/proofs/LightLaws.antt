@@ -1,11 +1,11 @@
 -- Entries of the light table as lower and upper fractions of lights, and the light of each code among them.
-use mathlib.Core.Path.{_≡_, refl, sym, ap, subst}
-use mathlib.Core.Logic.{_⊎_, inl, inr}
+use mathlib.Core.Path.{_≡_, refl, subst}
+use mathlib.Core.Logic.{inl, inr}
 use Prim.Native.Nat.{ℕ, _+_, _-_, _*_, _≤_, _<_}
 use native.Mathlib.Numerals.{add-one}
 use native.Mathlib.Decide.{decLe}
 use native.Mathlib.Omega.{arith}
-use Rattle.laws.specs.Fraction.{Fraction, over, whole, _≼_}
+use Rattle.laws.specs.Fraction.{Fraction, whole, _≼_}
 use Rattle.laws.specs.Side.{Side, low, high}
 use Rattle.pq.specs.Pq.{indexSignal}
 use Rattle.pq.specs.LightTable.{lightEntry}

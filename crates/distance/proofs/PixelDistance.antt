@@ -1,21 +1,21 @@
 -- The distances of a pixel's three codes, from whole units that enclose its lights and its bent light.
-use mathlib.Core.Path.{_≡_, refl, sym, subst}
-use mathlib.Core.Logic.{_⊎_, inl, inr}
-use Prim.Native.Nat.{ℕ, suc, _+_, _-_, _*_, _≤_, _<_}
-use native.Mathlib.Nat.{zero-lt-suc, le-refl, le-trans}
+use mathlib.Core.Path.{_≡_, refl, subst}
+use mathlib.Core.Logic.{inl, inr}
+use Prim.Native.Nat.{ℕ, _+_, _-_, _*_, _≤_, _<_}
+use native.Mathlib.Nat.{zero-lt-suc, le-trans}
 use native.Mathlib.Decide.{decLe}
 use native.Mathlib.Omega.{arith}
 use Rattle.laws.specs.Fraction.{Fraction, over, whole}
-use Rattle.laws.specs.Side.{Side, low, high, other}
+use Rattle.laws.specs.Side.{Side, low, high}
 use Rattle.quantity.specs.Units.{thousand}
-use Rattle.quantity.specs.Component.{Component, red, green, blue, Pixel, brightest}
+use Rattle.quantity.specs.Component.{Component, Pixel, brightest}
 use Rattle.hlg_steps.specs.Steps.{thresholdSignal}
 use Rattle.hlg.specs.Code.{hlgCode}
-use Rattle.exact.specs.ExactValue.{signal, Light, BentLight, Result, SceneLight, Signal}
+use Rattle.exact.specs.ExactValue.{signal, Light, BentLight, Result, Signal}
 use Rattle.distance.specs.Demand.{LessThanTwo, NineSixteenths, Enclosed}
 use Rattle.distance.proofs.CommonFactor.{Code, code-is}
 use Rattle.distance.proofs.SceneBounds.{weigh, Scaled, scene-bounds}
-use Rattle.distance.proofs.NearLaws.{BentWithin, Near, Mapped, mapped-le, brightest-pos, near}
+use Rattle.distance.proofs.NearLaws.{BentWithin, Near, Mapped, mapped-le, near}
 use Rattle.distance.proofs.StepTests.{sixteenths}
 use Rattle.distance.proofs.CodeDistance.{Encloses, sixteenths-up, sixteenths-lo, halves-up, halves-lo, none}
 

@@ -1,12 +1,11 @@
 -- Scene light enclosed on either side, from the comparison without its common factor.
-use mathlib.Core.Path.{_≡_, sym, ap, subst, subst₂}
+use mathlib.Core.Path.{_≡_, sym, subst, subst₂}
 use Prim.Native.Nat.{ℕ, _+_, _*_, _^_, _≤_, _<_}
-use native.Mathlib.Nat.{mul-one, one-mul, mul-le-mul-left}
+use native.Mathlib.Nat.{mul-one, mul-le-mul-left}
 use native.Mathlib.Omega.{arith}
-use Rattle.laws.specs.Fraction.{Fraction, over, _·_, _↑_}
+use Rattle.laws.specs.Fraction.{over, _·_, _↑_}
 use Rattle.laws.specs.Side.{Side, low, high, At, Bounds}
-use Rattle.laws.proofs.PowerLaws.{of-product}
-use Rattle.quantity.specs.Units.{units, thousand}
+use Rattle.quantity.specs.Units.{thousand}
 use Rattle.quantity.specs.Component.{red, green, blue, Pixel}
 use Rattle.hlg_steps.specs.Steps.{scene}
 use Rattle.exact.specs.ExactValue.{relative, luminance}

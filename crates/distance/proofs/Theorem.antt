@@ -5,10 +5,9 @@ use Prim.Native.Nat.{ℕ, _+_, _-_, _*_, _≤_, _<_}
 use native.Mathlib.Nat.{lt-of-not-le}
 use native.Mathlib.Decide.{decLe}
 use native.Mathlib.Omega.{arith}
-use Rattle.laws.specs.Side.{Side, low, high}
 use Rattle.quantity.specs.Units.{units, thousand}
 use Rattle.quantity.specs.Component.{Component, Pixel, brightest}
-use Rattle.position.specs.Position.{codeRead, codeLight, positionOf}
+use Rattle.position.specs.Position.{codeLight, positionOf}
 use Rattle.position.proofs.PeakLaws.{thousand-position}
 use Rattle.eetf.specs.Curve.{mappedLight}
 use Rattle.pixel.specs.Conversion.{brightestLight, bent, mapped, code}

@@ -1,13 +1,12 @@
 -- A polynomial inequality from hypotheses a ≤ b, each weighed by a polynomial factor; the rest is compared coefficient by coefficient.
 -- As: cert 4 (λ a b c d. (a ⊑ b by c) ∷ (c ⊑ d by b) ∷ [] ⊢ a ⊗ c ≼ b ⊗ d) tt
-use mathlib.Core.Path.{_≡_, refl, sym, subst, subst₂}
 use mathlib.Core.List.{List, [], _∷_}
 use mathlib.Core.Bool.{Bool}
-use Prim.Native.Nat.{ℕ, zero, suc, _+_, _*_, _^_, _≤_, _<_}
-use native.Mathlib.Nat.{le-refl, le-dest, mul-le-mul-left, add-le-add}
+use Prim.Native.Nat.{ℕ, zero, suc, _≤_}
+use native.Mathlib.Nat.{le-refl, mul-le-mul-left, add-le-add}
 use native.Mathlib.Omega.{arith}
 use lib.Dec.{T}
-use Rattle.laws.proofs.Polynomial.{E, var, #_, _⊕_, _⊗_, _↑_, nxt, val, below, norm, le-sound, All, all, ring, _≼_}
+use Rattle.laws.proofs.Polynomial.{E, var, #_, _⊕_, _⊗_, val, below, norm, le-sound, All, all, _≼_}
 
 infix 60 _⊑_by_
 pub data Given : Type 0 where

@@ -1,11 +1,10 @@
 -- Identities and inequalities of polynomials over the whole numbers, decided by computation on their expressions.
 -- A polynomial in n variables is the list of its coefficients by the first variable, each a polynomial in the others.
-use mathlib.Core.Path.{_≡_, refl, sym, _∙_, ap, ap₂, subst, subst₂}
+use mathlib.Core.Path.{_≡_, refl, sym, _∙_, ap, ap₂, subst₂}
 use mathlib.Core.List.{List, [], _∷_}
 use mathlib.Core.Bool.{Bool, true, false, _&&_}
-use Prim.Native.Nat.{ℕ, zero, suc, _+_, _*_, _^_, _%_, _≤_, _<_, zero-le, suc-le-suc}
-use native.Mathlib.Nat.{zero-add, add-zero, zero-mul, mul-zero, mul-one, one-mul, pow-zero, pow-succ', le-refl, le-trans, le-of-eq, lt-of-le-of-lt, add-le-add, mul-le-mul-left, mul-le-mul, add-mul-mod-self-left, mod-eq-of-lt, eq-of-mul-eq-mul-left, le-add-right, le-add-left, add-left-cancel, le-antisymm}
-use native.Mathlib.Numerals.{add-one}
+use Prim.Native.Nat.{ℕ, zero, suc, _+_, _*_, _^_, _%_, _≤_, _<_, zero-le}
+use native.Mathlib.Nat.{pow-zero, pow-succ', le-refl, le-trans, le-of-eq, lt-of-le-of-lt, add-le-add, mul-le-mul-left, add-mul-mod-self-left, mod-eq-of-lt, eq-of-mul-eq-mul-left, le-add-right, le-add-left, add-left-cancel, le-antisymm}
 use native.Mathlib.Omega.{arith}
 use lib.Dec.{T, eqb, leb, eqb→eq, leb→le}
 

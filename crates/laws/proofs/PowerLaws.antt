@@ -1,7 +1,7 @@
 -- Laws of powers: small ones as products, powers of products and of powers, and the order of bases.
 use mathlib.Core.Path.{_≡_, sym, _∙_, ap, ap₂}
 use mathlib.Core.Logic.{_≢_}
-use Prim.Native.Nat.{ℕ, zero, suc, _+_, _*_, _^_, _≤_, _<_}
+use Prim.Native.Nat.{ℕ, zero, suc, _*_, _^_, _≤_, _<_}
 use native.Mathlib.Nat.{le-of-eq, le-antisymm, lt-of-not-le, not-le-of-lt, mul-zero, mul-suc, one-mul, pow-zero, pow-suc, pow-le-pow-left, pow-lt-pow-left}
 use native.Mathlib.Decide.{decLe}
 use native.Mathlib.Omega.{arith}

@@ -1,7 +1,5 @@
 -- The peaks from 1,001 to 9,999, by computation alone: about a thousand to a declaration, whose steps are limited.
 use lib.Dec.{T}
-use mathlib.Core.Bool.{true, false}
-use Prim.Native.Nat.{ℕ}
 use Rattle.pq.specs.Pq.{ratioNum, ratioDen}
 use Rattle.quantity.specs.Units.{units, tenThousand}
 use Rattle.pq.specs.LightTable.{lightTable}

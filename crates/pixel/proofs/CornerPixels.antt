@@ -1,6 +1,6 @@
 -- The twelve marked pixels, by computation: under a peak above 1,000 the bent light is found by law, all else by the definitions.
-use mathlib.Core.Path.{_≡_, refl, sym, _∙_, ap, subst}
-use Prim.Native.Nat.{ℕ, _*_, _/_, _≤_, _<_}
+use mathlib.Core.Path.{_≡_, refl, _∙_, ap}
+use Prim.Native.Nat.{ℕ, _*_, _/_, _<_}
 use native.Mathlib.Omega.{arith}
 use Rattle.laws.specs.Largest.{largest}
 use Rattle.quantity.specs.Units.{units, thousand, lastPosition}

@@ -1,11 +1,11 @@
 -- Order among the components of a pixel, and among greys under one peak.
-use mathlib.Core.Path.{_≡_, sym, _∙_, ap, subst}
+use mathlib.Core.Path.{_≡_, _∙_, ap}
 use Prim.Native.Nat.{ℕ, _*_, _/_, _≤_, _<_}
 use native.Mathlib.Nat.{mul-le-mul-right, mul-div-cancel-left}
 use native.Mathlib.Decide.{decLe}
 use native.Mathlib.Omega.{arith}
 use Rattle.laws.proofs.DivisionLaws.{floor-grows}
-use Rattle.quantity.specs.Component.{Component, Pixel, brightest}
+use Rattle.quantity.specs.Component.{Component, Pixel}
 use Rattle.position.specs.Position.{codeLight}
 use Rattle.position.proofs.LightLaws.{code-light-grows}
 use Rattle.eetf.specs.Curve.{mappedLight}

@@ -1,7 +1,7 @@
 -- Laws of a converted pixel: its brightest light, what that is bent to, and its mapped components, in a black pixel too.
 use mathlib.Core.Path.{_≡_, sym, ap, subst}
 use mathlib.Core.Logic.{_⊎_, inl, inr}
-use Prim.Native.Nat.{ℕ, max, _-_, _*_, _≤_, _<_}
+use Prim.Native.Nat.{ℕ, max, _-_, _*_, _≤_}
 use native.Mathlib.Nat.{le-trans, le-of-eq, le-antisymm, zero-div, zero-mul}
 use native.Mathlib.Decide.{decLe}
 use native.Mathlib.Omega.{arith}
