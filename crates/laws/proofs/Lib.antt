@@ -6,3 +6,4 @@ pub mod FractionLaws
 pub mod ComputedTests
 pub mod LargestLaws
 pub mod SideLaws
+pub mod PartLaws

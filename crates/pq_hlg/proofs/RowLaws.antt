@@ -1,13 +1,14 @@
 -- Laws of rows: the search for a refused sample, and the bytes of a pixel, of a span and of a destination.
 use mathlib.Core.Path.{_≡_, refl, sym, _∙_, ap, ap₂}
 use mathlib.Core.Bool.{cond}
-use mathlib.Core.List.{List, [], _∷_, _++_, append-assoc}
+use mathlib.Core.List.{List, [], _∷_, _++_}
 use Prim.Native.Nat.{ℕ, zero, suc, _+_, _*_, _-_, _/_, _%_, _≤_, _<_}
 use native.Mathlib.Nat.{zero-add}
 use native.Mathlib.Numerals.{add-one}
 use native.Mathlib.Omega.{arith}
 use lib.ListN.{length, getD, take, drop, set, length-append, length-drop}
-use lib.Seq.{drop-drop, getD-drop, getD-take, drop-at, take-at, take-all}
+use lib.Seq.{getD-drop, getD-take, take-all}
+use Rattle.laws.proofs.PartLaws.{part-back, part-next}
 use Rattle.quantity.specs.Component.{Component, red, green, blue, Pixel, pixel}
 use Rattle.pixel.specs.Conversion.{code}
 use Rattle.pixel.proofs.PixelLaws.{code-range}
@@ -109,27 +110,19 @@ span-more peak row n = ap (spanBytes peak row 0) (add-one n) ∙ ap (λ (k : ℕ
 pub put-pixel : (d d₀ front ys : List ℕ) (j : ℕ) → d ≡ front ++ drop (6 * j) d₀ → length front ≡ 6 * j
     → take (6 * j) d ++ (ys ++ drop (6 * j + 6 - 6 * j) (drop (6 * j) d)) ≡ (front ++ ys) ++ drop (6 * (j + 1)) d₀
 put-pixel d d₀ front ys j e l =
-    let k : 6 * j + 6 - 6 * j ≡ 6 = omega arith in
     let n : 6 * j + 6 ≡ 6 * (j + 1) = omega arith in
-    let rest : drop (6 * j + 6 - 6 * j) (drop (6 * j) d) ≡ drop (6 * (j + 1)) d₀ =
-    ap₂ (λ (x : ℕ) (y : List ℕ). drop x (drop (6 * j) y)) k e
-    ∙ ap (drop 6) (drop-at front (drop (6 * j) d₀) (6 * j) l)
-    ∙ drop-drop 6 (6 * j) d₀
-    ∙ ap (λ (x : ℕ). drop x d₀) n in
-    ap₂ (λ (x y : List ℕ). x ++ (ys ++ y)) (ap (take (6 * j)) e ∙ take-at front (drop (6 * j) d₀) (6 * j) l) rest
-    ∙ sym (append-assoc front ys (drop (6 * (j + 1)) d₀))
+    part-next d d₀ front ys (6 * j) (6 * j + 6) (omega arith) e l ∙ ap (λ (x : ℕ). front ++ ys ++ drop x d₀) n
 
 -- a span converted from the rest of a row and put in its place
 put-span : (peak : ℕ) (row d ys : List ℕ) (first end : ℕ) → first ≤ end → 6 * end ≤ length row
     → ys ≡ spanBytes peak (take (length row - 6 * first) (drop (6 * first) row)) 0 (end - first)
     → take (6 * first) d ++ (ys ++ drop (6 * end - 6 * first) (drop (6 * first) d)) ≡ take (6 * first) d ++ spanBytes peak row first (end - first) ++ drop (6 * end) d
 put-span peak row d ys first end le within e =
-    let k : 6 * first + (6 * end - 6 * first) ≡ 6 * end = omega arith in
     let rest = take-all (length row - 6 * first) (drop (6 * first) row) (simp length-drop (omega arith)) in
     let y : ys ≡ spanBytes peak row first (end - first) =
     e ∙ ap (λ (l : List ℕ). spanBytes peak l 0 (end - first)) rest ∙ span-of-rest peak row (6 * first) first (end - first) refl in
-    ap₂ (λ (x l : List ℕ). take (6 * first) d ++ (x ++ l)) y (drop-drop (6 * end - 6 * first) (6 * first) d ∙ ap (λ (n : ℕ). drop n d) k)
-    ∙ sym (append-assoc (take (6 * first) d) (spanBytes peak row first (end - first)) (drop (6 * end) d))
+    ap (λ (x : List ℕ). take (6 * first) d ++ (x ++ drop (6 * end - 6 * first) (drop (6 * first) d))) y
+    ∙ part-back d (spanBytes peak row first (end - first)) (6 * first) (6 * end) (omega arith)
 
 -- the destination of a refused call, and of one that converts
 pub refused-after : (peak : ℕ) (row dst : List ℕ) (first end : ℕ) {a : RowAnswer} {number place : ℕ} → a ≡ rowAnswer peak row (length dst) first end → a ≡ Refused number place
