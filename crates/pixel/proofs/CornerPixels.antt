@@ -53,6 +53,11 @@ first-code : Converts 1000 (pixel 65 65 65) 65 65 65
 unfolding largest units thousand lightTable lightEntry codeLight bentLight mappedLight stepTable step reaches hlgCode brightestLight brightestPosition bent mapped code
 first-code = record { to-red = refl; to-green = refl; to-blue = refl }
 
+-- a colour far above the peak: its luminance is weighed after the ratio, and all three components keep the brightest one's ratio
+hue-kept : Converts 1000 (pixel 940 512 300) 975 236 108
+unfolding largest units thousand lightTable lightEntry codeLight bentLight mappedLight stepTable step reaches hlgCode brightestLight brightestPosition bent mapped code
+hue-kept = record { to-red = refl; to-green = refl; to-blue = refl }
+
 -- ---- black, under any peak
 dark : (peak : ℕ) (p : Pixel) → brightestLight p ≡ 0 → (i : Component) → code peak p i ≡ 64
 unfolding code
