@@ -1,2 +1,3 @@
 pub mod HalvesLaws
 pub mod NumberLaws
+pub mod QuotientLaws

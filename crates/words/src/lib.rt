@@ -2,9 +2,12 @@
 pub mod multiple;
 pub mod order;
 pub mod product;
+pub mod quotient;
 
 pub use multiple::multiply;
 pub use multiple::multiply_by_power;
 pub use order::at_most;
 pub use product::Product;
 pub use product::multiply_add;
+pub use product::upper_word;
+pub use quotient::is_quotient;
