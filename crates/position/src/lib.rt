@@ -92,3 +92,11 @@ pub fn position_of(l: DisplayLight) -> Position
     let table = light_table();
     Position(search_position(&table, l.0, 0, 897024))
 }
+
+// The light table into a lent array, and on it the position of a light: one filling serves a whole call.
+pub fn fill_lights(table: &mut [u64; 3505], l: DisplayLight) -> Position
+    ensures { λ r. ⌜ (now (table .exit) ≡ lightTable) × (r .0 ≡ positionOf (l .0)) ⌝ }
+{
+    *table = light_table();
+    Position(search_position(table, l.0, 0, 897024))
+}
