@@ -1,1 +1,3 @@
 pub mod Code
+pub mod Root
+pub mod Settled
