@@ -1,3 +1,4 @@
 pub mod CodesLaws
 pub mod TestLaws
 pub mod RowLaws
+pub mod BlockLaws

@@ -1,17 +1,14 @@
 -- Laws of rows: the search for a refused sample, and the bytes of a pixel, of a span and of a destination.
 use mathlib.Core.Path.{_≡_, refl, sym, _∙_, ap, ap₂}
 use mathlib.Core.Bool.{cond}
-use mathlib.Core.List.{List, [], _∷_, _++_}
-use Prim.Native.Nat.{ℕ, zero, suc, _+_, _*_, _-_, _/_, _%_, _≤_, _<_}
-use native.Mathlib.Nat.{zero-add}
-use native.Mathlib.Numerals.{add-one}
+use mathlib.Core.List.{List, [], _∷_, _++_, append-nil, append-assoc}
+use Prim.Native.Nat.{ℕ, zero, suc, _+_, _*_, _-_, _≤_, _<_}
+use native.Mathlib.Nat.{zero-add, add-zero, add-suc}
 use native.Mathlib.Omega.{arith}
 use lib.ListN.{length, getD, take, drop, set, length-append, length-drop}
 use lib.Seq.{getD-drop, getD-take, take-all}
 use Rattle.laws.proofs.PartLaws.{part-back, part-next}
-use Rattle.quantity.specs.Component.{Component, red, green, blue, Pixel, pixel}
-use Rattle.pixel.specs.Conversion.{code}
-use Rattle.pixel.proofs.PixelLaws.{code-range}
+use Rattle.quantity.specs.Component.{Pixel}
 use Rattle.pq_hlg.specs.Pixel.{sampleRefused}
 use Rattle.pq_hlg.specs.declared.RowAnswer.{RowAnswer}
 use Rattle.pq_hlg.specs.declared.RowAnswer.the-variants.{Converted, Refused}
@@ -26,12 +23,8 @@ pub refused-none : (row : List ℕ) (i n : ℕ) → n ≡ 0 → firstRefused row
 unfolding firstRefused
 refused-none row i n e = ap (firstRefused row i) e
 
--- a code fits ten bits
-pub code-at-most : (peak : ℕ) (p : Pixel) (i : Component) {x : ℕ} → x ≡ code peak p i → x ≤ 1019
-code-at-most peak p i e = omega (arith, code-range peak p i)
-
 -- six stores into six bytes
-six-stores : (l : List ℕ) (a b c d e f : ℕ) → length l ≡ 6
+pub six-stores : (l : List ℕ) (a b c d e f : ℕ) → length l ≡ 6
     → set (set (set (set (set (set l 0 a) 1 b) 2 c) 3 d) 4 e) 5 f ≡ a ∷ b ∷ c ∷ d ∷ e ∷ f ∷ []
 six-stores [] a b c d e f h = absurd (omega arith)
 six-stores (x0 ∷ []) a b c d e f h = absurd (omega arith)
@@ -41,15 +34,6 @@ six-stores (x0 ∷ x1 ∷ x2 ∷ x3 ∷ []) a b c d e f h = absurd (omega arith)
 six-stores (x0 ∷ x1 ∷ x2 ∷ x3 ∷ x4 ∷ []) a b c d e f h = absurd (omega arith)
 six-stores (x0 ∷ x1 ∷ x2 ∷ x3 ∷ x4 ∷ x5 ∷ []) a b c d e f h = refl
 six-stores (x0 ∷ x1 ∷ x2 ∷ x3 ∷ x4 ∷ x5 ∷ x6 ∷ l) a b c d e f h = absurd (omega arith)
-
--- the six bytes of three codes
-pub stored-pixel : (peak : ℕ) (row dst : List ℕ) (r g b x y z : ℕ) → length dst ≡ 6
-    → r ≡ sampleAt row 0 → g ≡ sampleAt row 1 → b ≡ sampleAt row 2
-    → (x ≡ code peak (pixel r g b) red) × (y ≡ code peak (pixel r g b) green) × (z ≡ code peak (pixel r g b) blue)
-    → set (set (set (set (set (set dst 0 (x / 256)) 1 (x % 256)) 2 (y / 256)) 3 (y % 256)) 4 (z / 256)) 5 (z % 256) ≡ pixelBytes peak (pixelAt row 0)
-unfolding pixelBytes
-stored-pixel peak row dst r g b x y z six er eg eb e =
-    six-stores dst (x / 256) (x % 256) (y / 256) (y % 256) (z / 256) (z % 256) six ∙ rw (e .0, e .1, e .2, er, eg, eb)
 
 -- a sample and a pixel of the rest of a row, as those of the row
 sample-of-rest : (row : List ℕ) (b i m : ℕ) → b + 2 * i ≡ 2 * m → sampleAt (drop b row) i ≡ sampleAt row m
@@ -101,10 +85,11 @@ length-span peak row j (suc n) =
     let l = length-pixel peak (pixelAt row (j + n)) in
     length-append (spanBytes peak row j n) (pixelBytes peak (pixelAt row (j + n))) ∙ omega (arith, length-span peak row j n)
 
--- one pixel more
-pub span-more : (peak : ℕ) (row : List ℕ) (n : ℕ) → spanBytes peak row 0 (n + 1) ≡ spanBytes peak row 0 n ++ pixelBytes peak (pixelAt row n)
+-- no pixel fills no byte
+pub empty-span : (peak : ℕ) (row dst : List ℕ) (n : ℕ) → n ≡ 0 → length dst ≡ 6 * n → dst ≡ spanBytes peak row 0 n
 unfolding spanBytes
-span-more peak row n = ap (spanBytes peak row 0) (add-one n) ∙ ap (λ (k : ℕ). spanBytes peak row 0 n ++ pixelBytes peak (pixelAt row k)) (zero-add n)
+empty-span peak row [] n e h = sym (ap (spanBytes peak row 0) e)
+empty-span peak row (x ∷ l) n e h = absurd (omega arith)
 
 -- pixel j put in its place after those before it
 pub put-pixel : (d d₀ front ys : List ℕ) (j : ℕ) → d ≡ front ++ drop (6 * j) d₀ → length front ≡ 6 * j
@@ -116,7 +101,8 @@ put-pixel d d₀ front ys j e l =
 -- a span converted from the rest of a row and put in its place
 put-span : (peak : ℕ) (row d ys : List ℕ) (first end : ℕ) → first ≤ end → 6 * end ≤ length row
     → ys ≡ spanBytes peak (take (length row - 6 * first) (drop (6 * first) row)) 0 (end - first)
-    → take (6 * first) d ++ (ys ++ drop (6 * end - 6 * first) (drop (6 * first) d)) ≡ take (6 * first) d ++ spanBytes peak row first (end - first) ++ drop (6 * end) d
+    → take (6 * first) d ++ (ys ++ drop (6 * end - 6 * first) (drop (6 * first) d))
+    ≡ take (6 * first) d ++ spanBytes peak row first (end - first) ++ drop (6 * end) d
 put-span peak row d ys first end le within e =
     let rest = take-all (length row - 6 * first) (drop (6 * first) row) (simp length-drop (omega arith)) in
     let y : ys ≡ spanBytes peak row first (end - first) =
@@ -125,14 +111,49 @@ put-span peak row d ys first end le within e =
     ∙ part-back d (spanBytes peak row first (end - first)) (6 * first) (6 * end) (omega arith)
 
 -- the destination of a refused call, and of one that converts
-pub refused-after : (peak : ℕ) (row dst : List ℕ) (first end : ℕ) {a : RowAnswer} {number place : ℕ} → a ≡ rowAnswer peak row (length dst) first end → a ≡ Refused number place
+pub refused-after : (peak : ℕ) (row dst : List ℕ) (first end : ℕ) {a : RowAnswer} {number place : ℕ}
+    → a ≡ rowAnswer peak row (length dst) first end → a ≡ Refused number place
     → dst ≡ destinationAfter peak row dst first end
 unfolding destinationAfter
 refused-after peak row dst first end e told = ap (λ (a : RowAnswer). bytesAfter a peak row dst first end) (sym told ∙ e)
 
-pub converted-after : (peak : ℕ) (row dst ys : List ℕ) (first end : ℕ) → rowAnswer peak row (length dst) first end ≡ Converted → first ≤ end → 6 * end ≤ length row
+pub converted-after : (peak : ℕ) (row dst ys : List ℕ) (first end : ℕ)
+    → rowAnswer peak row (length dst) first end ≡ Converted → first ≤ end → 6 * end ≤ length row
     → ys ≡ spanBytes peak (take (length row - 6 * first) (drop (6 * first) row)) 0 (end - first)
     → take (6 * first) dst ++ (ys ++ drop (6 * end - 6 * first) (drop (6 * first) dst)) ≡ destinationAfter peak row dst first end
 unfolding destinationAfter
 converted-after peak row dst ys first end e le within y =
     put-span peak row dst ys first end le within y ∙ sym (ap (λ (a : RowAnswer). bytesAfter a peak row dst first end) e)
+
+-- ---- a block of pixels: read from its own bytes, and after those before it
+sample-in-front : (s : List ℕ) (k j n : ℕ) → 6 * n ≤ k → j < n → pixelAt (take k s) j ≡ pixelAt s j
+sample-in-front s k j n h l =
+    let r = sample-of-front s k (3 * j) (omega arith) in
+    let g = sample-of-front s k (3 * j + 1) (omega arith) in
+    let b = sample-of-front s k (3 * j + 2) (omega arith) in
+    rw (r, g, b)
+
+span-of-front : (peak : ℕ) (s : List ℕ) (k n : ℕ) → 6 * n ≤ k → spanBytes peak (take k s) 0 n ≡ spanBytes peak s 0 n
+unfolding spanBytes
+span-of-front peak s k zero h = refl
+span-of-front peak s k (suc n) h =
+    ap₂ (λ (x : List ℕ) (p : Pixel). x ++ pixelBytes peak p) (span-of-front peak s k n (omega arith)) (sample-in-front s k (0 + n) (suc n) h (omega arith))
+
+pub span-of-part : (peak : ℕ) (row : List ℕ) (j n b k : ℕ) → b ≡ 6 * j → 6 * n ≤ k → spanBytes peak (take k (drop b row)) 0 n ≡ spanBytes peak row j n
+span-of-part peak row j n b k e h = span-of-front peak (drop b row) k n h ∙ span-of-rest peak row b j n e
+
+pub span-further : (peak : ℕ) (row : List ℕ) (n m : ℕ) → spanBytes peak row 0 (n + m) ≡ spanBytes peak row 0 n ++ spanBytes peak row n m
+unfolding spanBytes
+span-further peak row n zero = ap (spanBytes peak row 0) (add-zero n) ∙ sym (append-nil (spanBytes peak row 0 n))
+span-further peak row n (suc m) =
+    let here : pixelAt row (0 + (n + m)) ≡ pixelAt row (n + m) = ap (pixelAt row) (zero-add (n + m)) in
+    ap (spanBytes peak row 0) (add-suc n m)
+    ∙ ap₂ (λ (x : List ℕ) (p : Pixel). x ++ pixelBytes peak p) (span-further peak row n m) here
+    ∙ append-assoc (spanBytes peak row 0 n) (spanBytes peak row n m) (pixelBytes peak (pixelAt row (n + m)))
+
+-- a block of n pixels put in its place after those before it
+pub put-block : (d d₀ front ys : List ℕ) (j n : ℕ) → d ≡ front ++ drop (6 * j) d₀ → length front ≡ 6 * j
+    → take (6 * j) d ++ (ys ++ drop (6 * j + 6 * n - 6 * j) (drop (6 * j) d)) ≡ (front ++ ys) ++ drop (6 * (j + n)) d₀
+put-block d d₀ front ys j n e l =
+    let k : 6 * j + 6 * n ≡ 6 * (j + n) = omega arith in
+    part-next d d₀ front ys (6 * j) (6 * j + 6 * n) (omega arith) e l ∙ ap (λ (x : ℕ). front ++ ys ++ drop x d₀) k

@@ -1,22 +1,29 @@
-// The HLG codes of one pixel, and what is refused of it. The light table and the peak's position are found once a call and lent to every pixel.
+// The HLG codes of one pixel, its mapped components, and what is refused of it. Tables and the peak's position are found once a call and lent.
 ghost use mathlib.Core.Path.{_≡_};
 ghost use Prim.Native.Nat.{max, _*_, _-_, _≤_};
-ghost use Rattle.quantity.specs.Units.{units, tenThousand, lastPosition};
+ghost use Rattle.quantity.specs.Units.{units, thousand, tenThousand, lastPosition};
 ghost use Rattle.quantity.specs.Component.{red, green, blue, pixel};
 ghost use Rattle.pq.specs.LightTable.{lightTable};
 ghost use Rattle.position.specs.Position.{codeRead, positionOf};
-ghost use Rattle.eetf.specs.Curve.{bentLight};
-ghost use Rattle.pixel.specs.Conversion.{code};
+ghost use Rattle.eetf.specs.Curve.{bentLight, mappedLight};
+ghost use Rattle.pixel.specs.Conversion.{mapped, code};
 ghost use Rattle.pq_hlg.specs.Pixel.{peakRefused, sampleRefused};
+use crate::hints::factor_hint;
+use crate::hints::hint_table;
+use crate::near::near_codes;
+use crate::root::lower_root;
+use crate::root::weigh;
 use eetf::knee_curve;
 use eetf::map_component;
 use hlg::Codes;
-use hlg::hlg_codes;
+use hlg_steps::step_table;
+use position::fill_lights;
 use position::light_of_code_in;
-use position::position_of;
 use position::read_code;
 use quantity::DisplayLight;
 use quantity::Position;
+use words::is_quotient;
+use words::upper_word;
 
 // A peak of 0 or above 10,000 cd/m2 is refused.
 pub(crate) fn refuses_peak(peak: u64) -> bool
@@ -36,14 +43,6 @@ pub(crate) fn refuses_sample(d: u64) -> bool
         return true;
     }
     1019 < d
-}
-
-// w, the position of a peak in whole cd/m2.
-pub(crate) fn peak_position(peak: u64) -> Position
-    requires { ⌜ peak ≤ 10000 ⌝ }
-    ensures { λ w. ⌜ w .0 ≡ positionOf (peak * units) ⌝ }
-{
-    position_of(DisplayLight(peak * 16777216))
 }
 
 fn larger(a: u64, b: u64) -> u64
@@ -89,26 +88,70 @@ fn bent_light(
     m1
 }
 
-// The HLG codes of a pixel, by its lights, the curve at the brightest of them, and the mapped components.
-pub(crate) fn pixel_codes(
+// The HLG codes of one pixel, for which alone the tables are filled.
+pub(crate) fn pixel_codes(peak: u64, r: u64, g: u64, b: u64) -> Codes
+    requires { ⌜ peak ≤ 10000 ⌝ }
+    ensures { λ c. ⌜ (c .red ≡ code peak (pixel r g b) red) × (c .green ≡ code peak (pixel r g b) green) × (c .blue ≡ code peak (pixel r g b) blue) ⌝ }
+{
+    let mut lights = [0u64; 3505];
+    let w = fill_lights(&mut lights, DisplayLight(peak * 16777216));
+    let steps = step_table();
+    let hints = hint_table();
+    let m = mapped_lights(&lights, &hints, w, peak, r, g, b);
+    let root = lower_root(&hints, weigh(m.red, m.green, m.blue));
+    near_codes(&steps, &hints, root, m.red, m.green, m.blue)
+}
+
+// Three mapped components, in units.
+pub(crate) struct Mapped {
+    pub red: u64,
+    pub green: u64,
+    pub blue: u64,
+}
+
+// floor(c × m2 / m1) by a guess of 2^62 m2 / m1: a quotient that fails its test is divided out.
+fn scaled(c: u64, m1: u64, m2: u64, factor: u64) -> u64
+    requires { ⌜ (c ≤ m1) × (m1 ≤ tenThousand) × (m2 ≤ thousand) ⌝ }
+    ensures { λ r. ⌜ r ≡ mappedLight c m1 m2 ⌝ }
+{
+    let q = upper_word(4 * c, factor);
+    if is_quotient(q, c, m1, m2) {
+        return q;
+    }
+    let divided = map_component(DisplayLight(c), DisplayLight(m1), DisplayLight(m2));
+    divided.0
+}
+
+// The mapped components of a pixel, by its lights and the curve at the brightest of them. Where nothing is bent they are its lights.
+pub(crate) fn mapped_lights(
     lights: &[u64; 3505],
+    hints: &[u64; 1361],
     w: Position,
     peak: u64,
     r: u64,
     g: u64,
     b: u64,
-) -> Codes
+) -> Mapped
     requires { ⌜ (now lights ≡ lightTable) × (w .0 ≡ positionOf (peak * units)) ⌝ }
-    ensures { λ c. ⌜ (c .red ≡ code peak (pixel r g b) red) × (c .green ≡ code peak (pixel r g b) green) × (c .blue ≡ code peak (pixel r g b) blue) ⌝ }
+    ensures { λ m. ⌜ (m .red ≡ mapped peak (pixel r g b) red) × (m .green ≡ mapped peak (pixel r g b) green) × (m .blue ≡ mapped peak (pixel r g b) blue) ⌝ }
 {
     let r_light = light_of_code_in(lights, r);
     let g_light = light_of_code_in(lights, g);
     let b_light = light_of_code_in(lights, b);
     let m1 = DisplayLight(brightest_of(r_light.0, g_light.0, b_light.0));
-    let m2 = bent_light(lights, w, peak, m1, code_position(brightest_of(r, g, b)));
-    hlg_codes(
-        map_component(r_light, m1, m2),
-        map_component(g_light, m1, m2),
-        map_component(b_light, m1, m2),
-    )
+    let d = brightest_of(r, g, b);
+    let m2 = bent_light(lights, w, peak, m1, code_position(d));
+    if m1.0 == m2.0 {
+        return Mapped {
+            red: r_light.0,
+            green: g_light.0,
+            blue: b_light.0,
+        };
+    }
+    let factor = factor_hint(hints, read_code(d), m2.0);
+    Mapped {
+        red: scaled(r_light.0, m1.0, m2.0, factor),
+        green: scaled(g_light.0, m1.0, m2.0, factor),
+        blue: scaled(b_light.0, m1.0, m2.0, factor),
+    }
 }

@@ -1,6 +1,12 @@
 // The engine's calls: one pixel, a span of a row, and the row call for a host in C. Samples are ten-bit narrow-range code values, PQ in and
 // HLG out; a peak is in whole cd/m2.
+mod block;
 mod codes;
+mod hint_table;
+mod hints;
+mod near;
+mod root;
+mod samples;
 mod span;
 
 ghost use mathlib.Core.Path.{_≡_};
@@ -8,11 +14,9 @@ ghost use lib.ListN.{length};
 ghost use Rattle.quantity.specs.Component.{pixel};
 ghost use Rattle.pq_hlg.specs.Pixel.{pixelAnswer, VotedWhere};
 ghost use Rattle.pq_hlg.specs.Row.{rowAnswer, destinationAfter, hostNumber};
-use codes::peak_position;
 use codes::pixel_codes;
 use codes::refuses_peak;
 use codes::refuses_sample;
-use pq::light_table;
 use span::convert_span;
 use span::test_row;
 
@@ -45,8 +49,7 @@ pub fn convert_pixel(peak: u64, red: u64, green: u64, blue: u64) -> PixelAnswer
     if refuses_sample(blue) {
         return PixelAnswer::Refused(9, 2);
     }
-    let lights = light_table();
-    let codes = pixel_codes(&lights, peak_position(peak), peak, red, green, blue);
+    let codes = pixel_codes(peak, red, green, blue);
     PixelAnswer::Codes(codes.red, codes.green, codes.blue)
 }
 

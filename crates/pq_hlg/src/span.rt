@@ -1,32 +1,22 @@
 // A span of a row: what is refused of it, and its bytes. Three 16-bit samples to a pixel, high byte first.
 ghost use mathlib.Core.Path.{_≡_};
-ghost use Prim.Native.Nat.{_+_, _*_, _-_, _≤_, _<_};
+ghost use Prim.Native.Nat.{min, _*_, _-_, _≤_};
 ghost use lib.ListN.{length};
 ghost use Rattle.quantity.specs.Units.{units};
 ghost use Rattle.pq.specs.LightTable.{lightTable};
 ghost use Rattle.position.specs.Position.{positionOf};
-ghost use Rattle.pq_hlg.specs.Row.{sampleAt, pixelAt, firstRefused, lengthRefused, spanRefused, rowAnswer, pixelBytes, spanBytes};
+ghost use Rattle.hlg_steps.specs.StepTable.{stepTable};
+ghost use Rattle.pq_hlg.specs.Row.{firstRefused, lengthRefused, spanRefused, rowAnswer, spanBytes};
 use crate::RowAnswer;
-use crate::codes::peak_position;
-use crate::codes::pixel_codes;
+use crate::block::convert_block;
 use crate::codes::refuses_peak;
 use crate::codes::refuses_sample;
-use pq::light_table;
+use crate::hints::hint_table;
+use crate::samples::sample;
+use hlg_steps::step_table;
+use position::fill_lights;
+use quantity::DisplayLight;
 use quantity::Position;
-
-fn widen(byte: u8) -> u64
-    ensures { λ r. ⌜ r ≡ byte ⌝ }
-{
-    byte as u64
-}
-
-// Sample i, high byte first.
-fn sample(row: &[u8], i: usize) -> u64
-    requires { ⌜ 2 * i + 2 ≤ length (now row) ⌝ }
-    ensures { λ r. ⌜ r ≡ sampleAt (now (row .entry)) i ⌝ }
-{
-    256 * widen(row[2 * i]) + widen(row[2 * i + 1])
-}
 
 // The first refused sample of from .. to, else to.
 fn first_refused(row: &[u8], from: usize, to: usize) -> usize
@@ -85,54 +75,61 @@ pub(crate) fn test_row(peak: u64, row: &[u8], bytes: usize, first: usize, end: u
     RowAnswer::Converted
 }
 
-// The six bytes of one pixel, converted into six others.
-fn write_pixel(lights: &[u64; 3505], w: Position, peak: u64, src: &[u8], dst: &mut [u8])
-    requires { ⌜ (now lights ≡ lightTable) × (w .0 ≡ positionOf (peak * units)) × (length (now src) ≡ 6) × (length (now dst) ≡ 6) ⌝ }
-    ensures { λ _. ⌜ now (dst .exit) ≡ pixelBytes peak (pixelAt (now (src .entry)) 0) ⌝ }
+// The pixels of the next block, of those left.
+fn block_of(left: usize) -> usize
+    ensures { λ n. ⌜ n ≡ min left 32 ⌝ }
 {
-    let codes = pixel_codes(
-        lights,
-        w,
-        peak,
-        sample(src, 0),
-        sample(src, 1),
-        sample(src, 2),
-    );
-    dst[0] = (codes.red / 256) as u8;
-    dst[1] = (codes.red % 256) as u8;
-    dst[2] = (codes.green / 256) as u8;
-    dst[3] = (codes.green % 256) as u8;
-    dst[4] = (codes.blue / 256) as u8;
-    dst[5] = (codes.blue % 256) as u8;
+    if left < 32 {
+        return left;
+    }
+    32
 }
 
-// The pixels that fill dst, converted from the first ones of src.
-fn convert_pixels(
+// The pixels that fill dst, converted from the first ones of src, block by block.
+fn convert_blocks(
     lights: &[u64; 3505],
+    steps: &[u64; 955],
+    hints: &[u64; 1361],
     w: Position,
     peak: u64,
     src: &[u8],
     dst: &mut [u8],
     pixels: usize,
 )
-    requires { ⌜ (now lights ≡ lightTable) × (w .0 ≡ positionOf (peak * units)) × (length (now dst) ≡ 6 * pixels) × (6 * pixels ≤ length (now src)) ⌝ }
+    requires { ⌜ (now lights ≡ lightTable) × (now steps ≡ stepTable) × (w .0 ≡ positionOf (peak * units))
+        × (length (now dst) ≡ 6 * pixels) × (6 * pixels ≤ length (now src)) ⌝ }
     ensures { λ _. ⌜ now (dst .exit) ≡ spanBytes peak (now (src .entry)) 0 pixels ⌝ }
 {
     let mut j = 0;
     while j < pixels {
+        let count = block_of(pixels - j);
         let from = 6 * j;
-        let to = from + 6;
-        write_pixel(lights, w, peak, &src[from..to], &mut dst[from..to]);
-        j += 1;
+        let to = from + 6 * count;
+        convert_block(
+            lights,
+            steps,
+            hints,
+            w,
+            peak,
+            &src[from..to],
+            &mut dst[from..to],
+            count,
+        );
+        j += count;
     }
 }
 
-// The span converter: what a whole span shares is found here, once.
+// The span converter: what a whole span shares is found here, once. An empty span needs nothing.
 pub(crate) fn convert_span(peak: u64, src: &[u8], dst: &mut [u8], pixels: usize)
     requires { ⌜ (peak ≤ 10000) × (length (now dst) ≡ 6 * pixels) × (6 * pixels ≤ length (now src)) ⌝ }
     ensures { λ _. ⌜ now (dst .exit) ≡ spanBytes peak (now (src .entry)) 0 pixels ⌝ }
 {
-    let lights = light_table();
-    let w = peak_position(peak);
-    convert_pixels(&lights, w, peak, src, dst, pixels);
+    if pixels == 0 {
+        return;
+    }
+    let mut lights = [0u64; 3505];
+    let w = fill_lights(&mut lights, DisplayLight(peak * 16777216));
+    let steps = step_table();
+    let hints = hint_table();
+    convert_blocks(&lights, &steps, &hints, w, peak, src, dst, pixels);
 }

@@ -7,23 +7,14 @@ use Rattle.pq_hlg.proofs.TestLaws.{peak-taken}
 use Rattle.pq_hlg.proofs.convert_pixel.Statement.{statement}
 use Rattle.pq_hlg.proofs.convert_pixel.Tie as tie
 
-refuses-peak-requires : tie.Need-refuses-peak-requires
-refuses-peak-requires c κs = search needs
-
 returns : tie.Need-returns
 unfolding pixelAnswer VotedWhere
 returns c = (simp (sym (c .before .refuses-peak .ensures), c .if1 .taken), tt)
-
-refuses-sample-requires : tie.Need-refuses-sample-requires
-refuses-sample-requires c κs = search needs
 
 returns-2 : tie.Need-returns-2
 unfolding pixelAnswer VotedWhere
 returns-2 c =
     (simp (sym (c .before .before .before .refuses-peak .ensures), c .before .before .if1 .left, sym (c .before .refuses-sample .ensures), c .if2 .taken), tt)
-
-refuses-sample-requires-2 : tie.Need-refuses-sample-requires-2
-refuses-sample-requires-2 c κs = search needs
 
 returns-3 : tie.Need-returns-3
 unfolding pixelAnswer VotedWhere
@@ -38,9 +29,6 @@ returns-3 c = (
   ),
   tt,
 )
-
-refuses-sample-requires-3 : tie.Need-refuses-sample-requires-3
-refuses-sample-requires-3 c κs = search needs
 
 returns-4 : tie.Need-returns-4
 unfolding pixelAnswer VotedWhere
@@ -58,30 +46,24 @@ returns-4 c = (
   tt,
 )
 
-light-table-requires : tie.Need-light-table-requires
-light-table-requires c κs = search needs
-
-peak-position-requires : tie.Need-peak-position-requires
-peak-position-requires c κs =
-    peak-taken _ (sym (c .before .before .before .before .before .before .before .before .before .refuses-peak .ensures)
-    ∙ c .before .before .before .before .before .before .before .before .if1 .left) .1
-
 pixel-codes-requires : tie.Need-pixel-codes-requires
-pixel-codes-requires c κs = (c .before .before .light-table .ensures, c .peak-position .ensures)
+pixel-codes-requires c κs =
+    let tested = c .before .before .before .before .before .before in
+    peak-taken _ (sym (tested .before .refuses-peak .ensures) ∙ tested .if1 .left) .1
 
 returns-5 : tie.Need-returns-5
 unfolding pixelAnswer VotedWhere
 returns-5 c =
-    let tested = c .before .before .before .before .before .before .before .before .before .before in (
+    let tested = c .before .before .before .before .before .before .before in (
       simp (
-        sym (c .before .before .before .before .before .before .before .before .before .before .before .refuses-peak .ensures),
-        c .before .before .before .before .before .before .before .before .before .before .if1 .left,
-        sym (c .before .before .before .before .before .before .before .before .before .refuses-sample .ensures),
-        c .before .before .before .before .before .before .before .before .if2 .left,
-        sym (c .before .before .before .before .before .before .before .refuses-sample2 .ensures),
-        c .before .before .before .before .before .before .if3 .left,
-        sym (c .before .before .before .before .before .refuses-sample3 .ensures),
-        c .before .before .before .before .if4 .left,
+        sym (c .before .before .before .before .before .before .before .before .refuses-peak .ensures),
+        c .before .before .before .before .before .before .before .if1 .left,
+        sym (c .before .before .before .before .before .before .refuses-sample .ensures),
+        c .before .before .before .before .before .if2 .left,
+        sym (c .before .before .before .before .refuses-sample2 .ensures),
+        c .before .before .before .if3 .left,
+        sym (c .before .before .refuses-sample3 .ensures),
+        c .before .if4 .left,
         c .pixel-codes .ensures .0,
         c .pixel-codes .ensures .1,
         c .pixel-codes .ensures .2,
@@ -93,15 +75,13 @@ pub convert-pixel-spec : {M : Type 1} → statement M
 convert-pixel-spec =
     tie.close
     (tie.spec
-    refuses-peak-requires
+    (λ c κs. search needs)
     returns
-    refuses-sample-requires
+    (λ c κs. search needs)
     returns-2
-    refuses-sample-requires-2
+    (λ c κs. search needs)
     returns-3
-    refuses-sample-requires-3
+    (λ c κs. search needs)
     returns-4
-    light-table-requires
-    peak-position-requires
     pixel-codes-requires
     returns-5)

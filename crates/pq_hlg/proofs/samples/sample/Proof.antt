@@ -1,10 +1,10 @@
--- `pq_hlg::span::sample` meets its contract: both bytes lie in the row and are below 256.
+-- `pq_hlg::samples::sample` meets its contract: both bytes lie in the row and are below 256.
 use Prim.Native.Nat.{_*_, _+_}
 use native.Mathlib.Omega.{arith}
 use borrow.Author.Needs.{needs}
 use Rattle.pq_hlg.specs.Row.{sampleAt}
-use Rattle.pq_hlg.proofs.span.sample.Statement.{statement}
-use Rattle.pq_hlg.proofs.span.sample.Tie as tie
+use Rattle.pq_hlg.proofs.samples.sample.Statement.{statement}
+use Rattle.pq_hlg.proofs.samples.sample.Tie as tie
 
 mul-widen : tie.Need-mul-widen
 mul-widen c = search needs

@@ -1,0 +1,66 @@
+// Guesses that spare work where a test confirms them. Nothing rests on their values: no function here promises one, each is only safe. A guess that
+// cannot be made is 0.
+ghost use Prim.Native.Nat.{_*_, _^_, _≤_, _<_};
+use crate::hint_table::HINTS;
+use std::num::wrapping_add_u64;
+use std::num::wrapping_sub_u64;
+use words::upper_word;
+
+// 2^58 and 2^38: a word over them is its six, or its 26, leading bits.
+const FIRST_BITS: u64 = 288230376151711744;
+
+const LEADING_BITS: u64 = 274877906944;
+
+// Both parts of a line: its slope below 2^20, and a code in 2^32 of its units.
+const SLOPES: u64 = 1048576;
+
+const CODE: u64 = 4294967296;
+
+// The hints. Each mention of the constant fills an array, so it is mentioned here alone: taken once a call and lent.
+pub(crate) fn hint_table() -> [u64; 1361] {
+    HINTS
+}
+
+// The zeros before the first one of a word.
+pub(crate) fn leading_zeros(x: u64) -> u64
+    ensures { λ r. ⌜ (r ≤ 64) × (x * 2 ^ r < 2 ^ 64) ⌝ }
+{
+    u64::leading_zeros(x) as u64
+}
+
+// A root, to fill a word, of the luminance n / 2^(z % 6), n being one that was shifted by its z leading zeros: in a straight line from one entry to the
+// next.
+pub(crate) fn root_hint(hints: &[u64; 1361], n: u64, z: u64) -> u64 {
+    let i = (800 + 33 * (z % 6) + n / FIRST_BITS) as usize;
+    let entry = hints[i];
+    let fall = wrapping_sub_u64(entry, hints[i + 1]);
+    wrapping_sub_u64(entry, upper_word(fall, n % FIRST_BITS * 64))
+}
+
+// The HLG code of a component by its product with a root, p: the height of a line over the leading bits of p. An entry holds the line's slope in its
+// low 20 bits and its start above them.
+pub(crate) fn code_hint(hints: &[u64; 1361], p: u64) -> u64 {
+    let z = leading_zeros(p);
+    if z < 6 {
+        return 0;
+    }
+    if 30 < z {
+        return 0;
+    }
+    let n = p << z;
+    let i = ((30 - z) * 32 + n / FIRST_BITS) as usize;
+    let line = hints[i];
+    wrapping_add_u64(line, line % SLOPES * (n / LEADING_BITS)) / CODE
+}
+
+// 2^62 m2 / m1 for m1 the light of the brightest code d.
+pub(crate) fn factor_hint(hints: &[u64; 1361], d: u64, m2: u64) -> u64 {
+    if d < 610 {
+        return 0;
+    }
+    if 940 < d {
+        return 0;
+    }
+    let i = (420 + d) as usize;
+    wrapping_add_u64(upper_word(m2 << 30, hints[i]), 1)
+}
