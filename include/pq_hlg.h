@@ -25,7 +25,8 @@ extern "C" {
    The place is 0 for 5 to 8. Samples outside the span are not looked at.
 
    A pointer may be null only where its length is 0. row and dst must not overlap. Nothing is kept between calls, so calls on
-   different destinations may run at the same time. */
+   different destinations may run at the same time. A call uses about 55 KiB of stack and no heap;
+   of the C library it calls memset alone. */
 uint64_t pq_hlg_convert_row(uint64_t peak,
                             const uint8_t *row, size_t row_len,
                             uint8_t *dst, size_t dst_len,

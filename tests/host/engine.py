@@ -59,11 +59,11 @@ def own_folder():
     return TemporaryDirectory(prefix="host-", dir=TARGET)
 
 
-def build(kind, library=LIBRARY):
-    """Compiles compare.c with the library; returns the program's path."""
+def build(kind, library=LIBRARY, name=None):
+    """Compiles compare.c with the library; returns the program's path. Two libraries of one run need two names."""
     if not library.exists():
         raise SystemExit(f"there is no {library}: run `rt staticlib pq_hlg` first")
-    program = Path(own_folder().name) / f"compare_{kind}"
+    program = Path(own_folder().name) / f"compare_{name or kind}"
     subprocess.run(["cc", "-std=c11", "-D_GNU_SOURCE", "-Wall", "-Wextra", "-Werror", *FLAGS[kind],
                     "-I", ROOT / "include", ROOT / "tests/host/compare.c", library, "-o", program],
                    check=True)

@@ -1,0 +1,81 @@
+/* How much of its thread's stack the row call uses, and that it isn't more than LIMIT.
+ *
+ * A thread gets a stack that has been painted; after the calls the lowest byte
+ * of another colour shows how deep they wrote. Long frames are touched page by
+ * page as they are made, so what is reserved and never written counts too.
+ */
+#include <pthread.h>
+#include <stdio.h>
+#include <stdlib.h>
+#include <string.h>
+#include <sys/mman.h>
+
+#include "pq_hlg.h"
+
+enum { STACK = 1 << 20, COLOUR = 0xA5, LIMIT = 72 * 1024, LONGEST = 8192 };
+
+static const uint64_t PEAKS[] = {1, 1000, 1001, 4000, 10000};
+static const size_t LENGTHS[] = {0, 1, 32, 33, LONGEST};
+
+/* Pixels that no guess settles, so that the exact comparison makes their codes: four under a peak of 1,000, four under
+   4,000, three under 10,000. */
+static const unsigned EXACT[][3] = {{660, 236, 539}, {287, 268, 136}, {657, 582, 933}, {843, 523, 211},
+                                    {690, 628, 823}, {413, 606, 933}, {562, 776, 695}, {452, 935, 872},
+                                    {378, 645, 337}, {765, 907, 650}, {782, 604, 865}};
+
+enum { EXACTS = sizeof EXACT / sizeof *EXACT };
+
+static uint8_t *stack, row[6 * LONGEST], dst[6 * LONGEST];
+static size_t deepest;
+
+static void stop(const char *why) {
+    fprintf(stderr, "stack: %s\n", why);
+    exit(1);
+}
+
+static void put_sample(size_t i, unsigned code) {
+    row[2 * i] = (uint8_t)(code >> 8);
+    row[2 * i + 1] = (uint8_t)(code & 255);
+}
+
+static void convert(uint64_t peak, size_t pixels) {
+    if (pq_hlg_convert_row(peak, row, 6 * pixels, dst, 6 * pixels, 0, pixels))
+        stop("the row call refused a row");
+}
+
+static void *make_calls(void *nothing) {
+    uint8_t *here = __builtin_frame_address(0);
+    uint32_t lot = 1;
+    for (size_t i = 0; i < 3 * LONGEST; i++) {
+        lot = 1664525 * lot + 1013904223;
+        put_sample(i, 4 + (lot >> 8) % 1016);
+    }
+    for (size_t i = 0; i < sizeof PEAKS / sizeof *PEAKS; i++)
+        for (size_t j = 0; j < sizeof LENGTHS / sizeof *LENGTHS; j++)
+            convert(PEAKS[i], LENGTHS[j]);
+    for (size_t i = 0; i < 3 * EXACTS; i++)
+        put_sample(i, EXACT[i / 3][i % 3]);
+    for (size_t i = 0; i < sizeof PEAKS / sizeof *PEAKS; i++)
+        convert(PEAKS[i], EXACTS);
+    uint8_t *lowest = stack;
+    while (*lowest == COLOUR)
+        lowest++;
+    deepest = (size_t)(here - lowest);
+    return nothing;
+}
+
+int main(void) {
+    pthread_attr_t attributes;
+    pthread_t thread;
+    stack = mmap(NULL, STACK, PROT_READ | PROT_WRITE, MAP_PRIVATE | MAP_ANONYMOUS, -1, 0);
+    if (stack == MAP_FAILED)
+        stop("no memory");
+    memset(stack, COLOUR, STACK);
+    if (pthread_attr_init(&attributes) || pthread_attr_setstack(&attributes, stack, STACK)
+        || pthread_create(&thread, &attributes, make_calls, NULL) || pthread_join(thread, NULL))
+        stop("no thread");
+    printf("a call uses %.1f KiB of stack\n", (double)deepest / 1024);
+    if (deepest > LIMIT)
+        stop("that is more than 72 KiB");
+    return 0;
+}
