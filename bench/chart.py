@@ -1,60 +1,53 @@
-"""Draws what the benchmark printed.
+"""Draws what the benchmark printed: the four pictures under a peak of 4,000.
 
     python3 -m bench.chart RESULT FILE.svg
 """
 
 import math
-import re
 import sys
 from pathlib import Path
 
 from docs.plots.svg import COLOURS, Frame, Picture
 
+from .result import PICTURES, read, three_digits
+
+PEAK = 4_000
 NAMES = {"row_call": "this engine, row call", "libm": "C doubles, libm throughout",
          "tables": "C doubles, tables for EOTF and curve", "copy": "copy of the bytes"}
-PICTURES = {"gradients": "gradients with noise", "blocks": "flat blocks", "film": "film-like highlights"}
-TOP = 20_000                             # ns, end of the axis
+WORDS = {"gradients": "gradients with noise", "blocks": "flat blocks", "film": "film-like highlights",
+         "random": "random codes"}
+BOTTOM, TOP = 0.5, 1_000                 # ns, ends of the axis
+LEFT = 265
 
 
-def read(text):
-    """{way: {picture: (ns, ratio)}} and {picture: rows}."""
-    times, rows, picture = {way: {} for way in NAMES}, {}, None
-    for line in text.splitlines():
-        if head := re.match(r"picture (\w+)\.rgb rows (\d+)", line):
-            picture = head[1]
-            rows[picture] = int(head[2])
-        elif found := re.match(r"(\w+) ([\d.]+) ns/pixel, ([\d.]+) of libm", line):
-            times[found[1]][picture] = float(found[2]), float(found[3])
-    return times, rows
+def along(ns):
+    """Where a time lies on the axis, 0 to 1."""
+    return max(0, math.log(ns / BOTTOM) / math.log(TOP / BOTTOM))
 
 
-def three_digits(number):
-    """A number to three digits."""
-    return f"{number:,.0f}" if number >= 100 else f"{number:.3g}"
-
-
-def draw(times, rows):
+def draw(times):
     """One group of bars a way, one bar a picture."""
-    picture = Picture(860, 330, "Nanoseconds a pixel of the row call and of C programs")
-    frame = Frame(picture, 265, 52, 470, 220, lambda ns: math.log10(ns) / math.log10(TOP), lambda y: y)
-    frame.grid((1, 10, 100, 1_000, 10_000), (), "ns a pixel, one thread (the axis is logarithmic)")
-    for i, name in enumerate(rows):
-        x = 265 + 165 * i
+    picture = Picture(860, 382, f"Nanoseconds a pixel of the row call and of C programs, peak {PEAK:,}")
+    frame = Frame(picture, LEFT, 52, 470, 276, along, lambda y: y)
+    frame.grid((1, 10, 100, 1_000), (), f"ns a pixel, one thread, peak {PEAK:,} (the axis is logarithmic)")
+    for i, name in enumerate(PICTURES):
+        x = LEFT + 150 * i
         picture.bar(x, 22, 11, 11, COLOURS[i])
-        picture.words(x + 16, 32, PICTURES[name], size=12)
+        picture.words(x + 16, 32, WORDS[name], size=12)
     for group, (way, label) in enumerate(NAMES.items()):
-        top = 60 + 54 * group
-        picture.words(255, top + 26, label, "end", 12, bold=way == "row_call")
-        for i, name in enumerate(rows):
-            ns, ratio = times[way][name]
-            y, width = top + 14 * i, frame.x(ns) - 265
-            picture.bar(265, y, width, 12, COLOURS[i])
-            picture.words(265 + width + 6, y + 10, f"{three_digits(ns)}   ({three_digits(ratio)} × libm)", size=10.5)
+        top = 60 + 68 * group
+        picture.words(LEFT - 10, top + 33, label, "end", 12, bold=way == "row_call")
+        for i, name in enumerate(PICTURES):
+            ns, ratio = times[PEAK, name][way]
+            y, width = top + 14 * i, frame.x(ns) - LEFT
+            picture.bar(LEFT, y, width, 12, COLOURS[i])
+            words = f"{three_digits(ns)}   ({three_digits(ratio)} × libm)"
+            picture.words(LEFT + width + 6, y + 10, words, size=10.5)
     return picture
 
 
 def main(result, path):
-    draw(*read(Path(result).read_text())).save(Path(path))
+    draw(read(Path(result).read_text()).times).save(Path(path))
 
 
 if __name__ == "__main__":

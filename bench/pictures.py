@@ -78,12 +78,27 @@ def film(random):
         yield bytes_of(clipped(int(shade + wave[x] + lift[x]) + next(grain)) for x in range(WIDTH) for wave in waves)
 
 
+def evenly(random):
+    """Codes drawn evenly from all accepted ones: no pixel is like the one before it."""
+    for _ in range(HEIGHT):
+        yield bytes_of(random.choices(range(4, 1_020), k=3 * WIDTH))
+
+
+PICTURES = {"gradients": gradients, "blocks": blocks, "film": film, "random": evenly}
+
+
+def rows_of(name, chosen=None):
+    """The rows of a picture, or the chosen ones."""
+    rows = PICTURES[name](Random(name))
+    return rows if chosen is None else (row for y, row in enumerate(rows) if y in chosen)
+
+
 def main(folder):
     folder = Path(folder)
     folder.mkdir(parents=True, exist_ok=True)
-    for picture in (gradients, blocks, film):
-        with open(folder / f"{picture.__name__}.rgb", "wb") as file:
-            file.writelines(picture(Random(picture.__name__)))
+    for name in PICTURES:
+        with open(folder / f"{name}.rgb", "wb") as file:
+            file.writelines(rows_of(name))
 
 
 if __name__ == "__main__":

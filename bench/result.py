@@ -1,0 +1,41 @@
+"""Reads what the timing programs printed."""
+
+import re
+from typing import NamedTuple
+
+WAYS = ("row_call", "libm", "tables", "copy")
+PICTURES = ("gradients", "blocks", "film", "random")
+PEAKS = (1_000, 4_000, 10_000)
+PIXELS = (0, 1, 16, 64, 256)
+
+
+class Result(NamedTuple):
+    """What a run found."""
+    times: dict                # (peak, picture): {way: (ns a pixel, ratio to libm)}
+    rows: dict                 # (peak, picture): rows that were timed
+    calls: dict                # pixels: ns of one call by row_call, libm and tables
+    filling: int               # ns of filling the tables of C
+
+
+def read(text):
+    """All figures of a run; one that lacks some is refused."""
+    times, rows, calls, filling, place = {}, {}, {}, None, None
+    for line in text.splitlines():
+        if found := re.match(r"peak (\d+) picture (\w+)\.rgb rows (\d+)", line):
+            place = int(found[1]), found[2]
+            times[place], rows[place] = {}, int(found[3])
+        elif found := re.match(r"(\w+) ([\d.]+) ns/pixel, ([\d.]+) of libm", line):
+            times[place][found[1]] = float(found[2]), float(found[3])
+        elif found := re.match(r"pixels (\d+): row_call (\d+) ns/call, libm (\d+), tables (\d+)", line):
+            calls[int(found[1])] = tuple(map(int, found.groups()[1:]))
+        elif found := re.match(r"tables of C filled: (\d+) ns", line):
+            filling = int(found[1])
+    whole = all(set(times.get((peak, picture), ())) == set(WAYS) for peak in PEAKS for picture in PICTURES)
+    if not whole or set(calls) != set(PIXELS) or filling is None:
+        raise SystemExit("the benchmark did not print all its figures")
+    return Result(times, rows, calls, filling)
+
+
+def three_digits(number):
+    """A number to three digits."""
+    return f"{number:,.0f}" if number >= 100 else f"{number:.3g}"

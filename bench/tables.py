@@ -1,0 +1,35 @@
+"""Prints what the benchmark found as the tables of README.md.
+
+    python3 -m bench.tables RESULT
+"""
+
+import sys
+from pathlib import Path
+
+from .result import PEAKS, PICTURES, PIXELS, WAYS, read, three_digits
+
+
+def table(words, head, rows):
+    """A Markdown table below some words."""
+    print(f"\n{words}\n\n| {' | '.join(head)} |\n{'|---' * len(head)}|")
+    for row in rows:
+        print(f"| {' | '.join(row)} |")
+
+
+def main(path):
+    result = read(Path(path).read_text())
+    rows = ", ".join(str(result.rows[4_000, picture]) for picture in PICTURES)
+    table(f"ns a pixel (and times libm) under a peak of 4,000; {rows} rows", ["", *PICTURES],
+          [[f"`{way}`", *("{} ({})".format(*map(three_digits, result.times[4_000, picture][way]))
+                          for picture in PICTURES)] for way in WAYS])
+    table("times libm", ["peak", "", *PICTURES],
+          [[f"{peak:,}", f"`{way}`", *(three_digits(result.times[peak, picture][way][1]) for picture in PICTURES)]
+           for peak in PEAKS for way in ("row_call", "tables")])
+    table(f"ns of one call (and times libm); filling the tables of C took {result.filling:,} ns",
+          ["pixels", "`row_call`", "`libm`", "`tables`"],
+          [[str(pixels), *(f"{ns:,} ({three_digits(ns / result.calls[pixels][1])})" for ns in result.calls[pixels])]
+           for pixels in PIXELS])
+
+
+if __name__ == "__main__":
+    main(sys.argv[1])
