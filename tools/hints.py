@@ -3,7 +3,7 @@
 
     python3 tools/hints.py source    print crates/pq_hlg/src/hint_table.rt
     python3 tools/hints.py --check   compare that file with what would be printed
-    python3 tools/hints.py slack     how far a guess of a root may lie, how far these do, and how far the proof would allow
+    python3 tools/hints.py slack     how far a guess of a root may lie, how far these do, and how far the proof's inequality allows
 
 1,361 entries, three tables after one another. A number's six leading bits t, 32 to 63, count its place in the
 first two, so 32 zeros come first and no place needs a subtraction.
@@ -116,7 +116,7 @@ def allowed():
 
 def slack():
     far, most = farthest(), allowed()
-    print(f"spread {SPREAD:,}; the hints need {far:,} ({far / SPREAD:.3f}), the proof allows {most:,} ({most / SPREAD:.3f})")
+    print(f"spread {SPREAD:,}; the hints need {far:,} ({far / SPREAD:.3f}), the inequality allows {most:,} ({most / SPREAD:.3f})")
     return 0 if far <= SPREAD <= most else 1
 
 
