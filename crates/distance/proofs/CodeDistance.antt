@@ -15,7 +15,7 @@ use Rattle.hlg_steps.specs.Steps.{scene, thresholdSignal}
 use Rattle.hlg_steps.specs.StepTable.{stepTable, step}
 use Rattle.hlg_steps.proofs.SignalTests.{signal-test}
 use Rattle.hlg_steps.proofs.StepLaws.{step-pos, step-signal-low, step-signal-high, steps-grow}
-use Rattle.distance.proofs.CommonFactor.{C, K, C-pos, Reach, Code}
+use Rattle.hlg.proofs.CancelledLaws.{C, K, C-pos, Reach, Code}
 use Rattle.distance.proofs.SceneBounds.{Scaled}
 use Rattle.distance.proofs.AdditiveLaws.{add-up, add-lo}
 use Rattle.distance.proofs.RatioLaws.{mult-up, mult-lo}

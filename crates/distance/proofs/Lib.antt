@@ -1,4 +1,3 @@
-pub mod CommonFactor
 pub mod SceneBounds
 pub mod AdditiveLaws
 pub mod RatioLaws

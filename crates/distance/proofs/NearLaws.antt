@@ -6,8 +6,7 @@ use native.Mathlib.Nat.{le-trans, mul-le-mul-left, mul-le-mul-right, le-of-mul-l
 use native.Mathlib.Decide.{decLe}
 use native.Mathlib.Omega.{arith}
 use Rattle.laws.proofs.DivisionLaws.{floor-le, lt-floor}
-use Rattle.quantity.specs.Component.{Component, red, green, blue, Pixel}
-use Rattle.distance.proofs.SceneBounds.{weigh}
+use Rattle.quantity.specs.Component.{Component, red, green, blue, Pixel, weighted}
 
 -- r is x * n / m, rounded down
 pub record Floor (x n m r : ℕ) : Type 0 where
@@ -83,20 +82,20 @@ module _ {p q m n bl bh : ℕ} {x r : Pixel} (B : BentWithin p q m n bl bh) (P :
   under : (i : Component) → r i ≤ n
   under i = mapped-le brightest-pos (P .inside i) (P .floors i)
 
-  least : 593 * n ≤ weigh r
+  least : 593 * n ≤ weighted r
   least = go (P .brightest)
     where
-      go : (x red ≡ m) ⊎ ((x green ≡ m) ⊎ (x blue ≡ m)) → 593 * n ≤ weigh r
+      go : (x red ≡ m) ⊎ ((x green ≡ m) ⊎ (x blue ≡ m)) → 593 * n ≤ weighted r
       go (inl e) = omega (arith, brightest-ge brightest-pos e (P .floors red))
       go (inr (inl e)) = omega (arith, brightest-ge brightest-pos e (P .floors green))
       go (inr (inr e)) = omega (arith, brightest-ge brightest-pos e (P .floors blue))
 
-  own : (i : Component) → 593 * r i ≤ weigh r
+  own : (i : Component) → 593 * r i ≤ weighted r
   own red = omega arith
   own green = omega arith
   own blue = omega arith
 
-  pub near : (i : Component) → Near p q m bl bh (x i) (weigh x) (r i) (weigh r)
+  pub near : (i : Component) → Near p q m bl bh (x i) (weighted x) (r i) (weighted r)
   near i =
       let hr = under red in
       let hg = under green in
@@ -107,10 +106,10 @@ module _ {p q m n bl bh : ℕ} {x r : Pixel} (B : BentWithin p q m n bl bh) (P :
       record {
         result-high = result-up p q m n bh (x i) (r i) (B .upper) (B .bent) (P .inside i) (P .floors i);
         luminance-low =
-            luminance-lo p q m n bl (weigh x) (weigh r) (B .lower) (omega (arith, fr .below, fg .below, fb .below)) (omega (arith, B .bent));
+            luminance-lo p q m n bl (weighted x) (weighted r) (B .lower) (omega (arith, fr .below, fg .below, fb .below)) (omega (arith, B .bent));
         result-low = result-lo p q m n bl (x i) (r i) (B .lower) (omega (arith, B .bent, under i)) (P .floors i);
         luminance-high =
-            luminance-up p q m n bh (weigh x) (weigh r) (B .upper) (B .bent) (omega (arith, P .inside red, P .inside green, P .inside blue))
+            luminance-up p q m n bh (weighted x) (weighted r) (B .upper) (B .bent) (omega (arith, P .inside red, P .inside green, P .inside blue))
             (omega (arith, fr .above, fg .above, fb .above));
         part = own i;
         least = omega (arith, least, B .seen);

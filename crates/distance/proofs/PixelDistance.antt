@@ -8,13 +8,13 @@ use native.Mathlib.Omega.{arith}
 use Rattle.laws.specs.Fraction.{Fraction, over, whole}
 use Rattle.laws.specs.Side.{Side, low, high}
 use Rattle.quantity.specs.Units.{thousand}
-use Rattle.quantity.specs.Component.{Component, Pixel, brightest}
+use Rattle.quantity.specs.Component.{Component, Pixel, brightest, weighted}
 use Rattle.hlg_steps.specs.Steps.{thresholdSignal}
 use Rattle.hlg.specs.Code.{hlgCode}
 use Rattle.exact.specs.ExactValue.{signal, Light, BentLight, Result, Signal}
 use Rattle.distance.specs.Demand.{LessThanTwo, NineSixteenths, Enclosed}
-use Rattle.distance.proofs.CommonFactor.{Code, code-is}
-use Rattle.distance.proofs.SceneBounds.{weigh, Scaled, scene-bounds}
+use Rattle.hlg.proofs.CancelledLaws.{Code, code-is}
+use Rattle.distance.proofs.SceneBounds.{Scaled, scene-bounds}
 use Rattle.distance.proofs.NearLaws.{BentWithin, Near, Mapped, mapped-le, near}
 use Rattle.distance.proofs.StepTests.{sixteenths}
 use Rattle.distance.proofs.CodeDistance.{Encloses, sixteenths-up, sixteenths-lo, halves-up, halves-lo, none}
@@ -60,7 +60,7 @@ module _ {peak m : ℕ} {p x : Pixel} {b : Side → ℕ} (L : Lights peak p x m 
         bounds = omega arith;
       }
 
-  signal-hi : (i : Component) {g : Fraction} → Encloses high ((x i + 1) * b high) m (b low * weigh x) (m + 1) g → Signal high peak p i g
+  signal-hi : (i : Component) {g : Fraction} → Encloses high ((x i + 1) * b high) m (b low * weighted x) (m + 1) g → Signal high peak p i g
   unfolding Signal
   signal-hi i E =
       inr (
@@ -82,10 +82,10 @@ module _ {peak m : ℕ} {p x : Pixel} {b : Side → ℕ} (L : Lights peak p x m 
         ),
       )
     where
-      sum : b low * weigh x ≡ weigh (λ j. x j * b low)
+      sum : b low * weighted x ≡ weighted (λ j. x j * b low)
       sum = omega arith
 
-  signal-lo : (i : Component) {g : Fraction} → Encloses low (x i * b low) (m + 1) (b high * (weigh x + 10000)) m g → Signal low peak p i g
+  signal-lo : (i : Component) {g : Fraction} → Encloses low (x i * b low) (m + 1) (b high * (weighted x + 10000)) m g → Signal low peak p i g
   unfolding Signal
   signal-lo i E =
       inr (
@@ -107,7 +107,7 @@ module _ {peak m : ℕ} {p x : Pixel} {b : Side → ℕ} (L : Lights peak p x m 
         ),
       )
     where
-      sum : b high * (weigh x + 10000) ≡ weigh (λ j. (x j + 1) * b high)
+      sum : b high * (weighted x + 10000) ≡ weighted (λ j. (x j + 1) * b high)
       sum = omega arith
 
 -- two fractions as one enclosure
@@ -142,17 +142,17 @@ module _ {peak m n : ℕ} {p x r : Pixel} {b : Side → ℕ} (L : Lights peak p 
   range i = le-trans (mapped-le (L .some) (P .inside i) (P .floors i)) h
 
   -- a pixel that the curve leaves, or cuts at 1,000 cd/m2
-  pub within-sixteenths : BentWithin 1 1 m n (b low) (b high) → (i : Component) → Enclosed peak p i (NineSixteenths (hlgCode (weigh r) (r i)))
+  pub within-sixteenths : BentWithin 1 1 m n (b low) (b high) → (i : Component) → Enclosed peak p i (NineSixteenths (hlgCode (weighted r) (r i)))
   unfolding zero-signal
   within-sixteenths B i = go (decLe d 64)
     where
       d : ℕ
-      d = hlgCode (weigh r) (r i)
+      d = hlgCode (weighted r) (r i)
 
-      c : Code (weigh r) (r i) d
-      c = code-is (weigh r) (r i)
+      c : Code (weighted r) (r i) d
+      c = code-is (weighted r) (r i)
 
-      N : Near 1 1 m (b low) (b high) (x i) (weigh x) (r i) (weigh r)
+      N : Near 1 1 m (b low) (b high) (x i) (weighted x) (r i) (weighted r)
       N = near B P i
 
       hi : Signal high peak p i (sixteenths (16 * (d - 64) + 9))
@@ -165,17 +165,17 @@ module _ {peak m n : ℕ} {p x r : Pixel} {b : Side → ℕ} (L : Lights peak p 
           (omega arith) (omega (arith, c .low))
 
   -- a pixel on the curve
-  pub within-two : BentWithin 360 361 m n (b low) (b high) → (i : Component) → Enclosed peak p i (LessThanTwo (hlgCode (weigh r) (r i)))
+  pub within-two : BentWithin 360 361 m n (b low) (b high) → (i : Component) → Enclosed peak p i (LessThanTwo (hlgCode (weighted r) (r i)))
   unfolding zero-signal
   within-two B i = go (decLe d 65)
     where
       d : ℕ
-      d = hlgCode (weigh r) (r i)
+      d = hlgCode (weighted r) (r i)
 
-      c : Code (weigh r) (r i) d
-      c = code-is (weigh r) (r i)
+      c : Code (weighted r) (r i) d
+      c = code-is (weighted r) (r i)
 
-      N : Near 360 361 m (b low) (b high) (x i) (weigh x) (r i) (weigh r)
+      N : Near 360 361 m (b low) (b high) (x i) (weighted x) (r i) (weighted r)
       N = near B P i
 
       hi : Signal high peak p i (thresholdSignal (d + 2))

@@ -8,7 +8,7 @@ use Rattle.laws.specs.Fraction.{Fraction, over, _≼_, _·_, _↑_}
 use Rattle.laws.specs.Side.{Side, low, high}
 use Rattle.laws.proofs.FractionLaws.{≼-refl, ≼-trans, ≼-product, ≼-power, ≼-root, ≼-cancel}
 use Rattle.quantity.specs.Units.{thousand}
-use Rattle.quantity.specs.Component.{Component, red, green, blue, Pixel, brightest}
+use Rattle.quantity.specs.Component.{Component, red, green, blue, Pixel, brightest, weighted}
 use Rattle.position.specs.Position.{codeRead}
 use Rattle.hlg_steps.specs.Steps.{scene}
 use Rattle.exact.specs.ExactValue.{signal, Result, relative, luminance, SceneLight, thousand-pos}
@@ -29,7 +29,7 @@ in-brightest p green h = omega arith
 in-brightest p blue h = omega arith
 
 weights-grow : (r t : Pixel) (y z : ℕ) (py : 0 < y) (pz : 0 < z) → ((j : Component) → over (r j) y py ≼ over (t j) z pz)
-    → over (2627 * r red + 6780 * r green + 593 * r blue) y py ≼ over (2627 * t red + 6780 * t green + 593 * t blue) z pz
+    → over (weighted r) y py ≼ over (weighted t) z pz
 weights-grow r t y z py pz h = record { cross = omega (arith, h red .cross, h green .cross, h blue .cross) }
 
 luminance-grows : (r t : Pixel) (y z : ℕ) (py : 0 < y) (pz : 0 < z) → ((j : Component) → over (r j) y py ≼ over (t j) z pz) → luminance r y py ≼ luminance t z pz
@@ -69,7 +69,7 @@ module _ {peak : ℕ} {p : Pixel} where
   luminance-pos : (r : Pixel) (z : ℕ) (pos : 0 < z) → 64 < brightest p → ((j : Component) → Result high peak p j (over (r j) z pos)) → 0 < luminance r z pos .num
   luminance-pos r z pos h x = mul-pos (mul-pos (go (decLe 65 (p red)) (decLe 65 (p green)) (decLe 65 (p blue))) (zero-lt-suc 0)) (zero-lt-suc 0)
     where
-      go : Dec (64 < p red) → Dec (64 < p green) → Dec (64 < p blue) → 0 < 2627 * r red + 6780 * r green + 593 * r blue
+      go : Dec (64 < p red) → Dec (64 < p green) → Dec (64 < p blue) → 0 < weighted r
       go (yes a) b c = omega (arith, result-pos red (over (r red) z pos) a (x red))
       go (no a) (yes b) c = omega (arith, result-pos green (over (r green) z pos) b (x green))
       go (no a) (no b) (yes c) = omega (arith, result-pos blue (over (r blue) z pos) c (x blue))

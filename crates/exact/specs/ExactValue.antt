@@ -9,7 +9,7 @@ use native.Mathlib.Omega.{arith}
 use Rattle.laws.specs.Fraction.{Fraction, over, whole, _·_, _↑_}
 use Rattle.laws.specs.Side.{Side, low, high, other, At, Bounds}
 use Rattle.quantity.specs.Units.{units, thousand}
-use Rattle.quantity.specs.Component.{Component, red, green, blue, Pixel, brightest}
+use Rattle.quantity.specs.Component.{Component, Pixel, brightest, weighted}
 use Rattle.pq.specs.Pq.{ValueAtMost, ValueAtLeast}
 use Rattle.position.specs.Position.{codeRead}
 use Rattle.hlg_steps.specs.Signal.{HlgSignal}
@@ -95,7 +95,7 @@ relative r = r · over 1 thousand thousand-pos
 
 -- the luminance of three such results r / z
 abbrev pub luminance : Pixel → (z : ℕ) → 0 < z → Fraction
-luminance r z pos = relative (over (2627 * r red + 6780 * r green + 593 * r blue) z pos) · over 1 10000 (zero-lt-suc 9999)
+luminance r z pos = relative (over (weighted r) z pos) · over 1 10000 (zero-lt-suc 9999)
 
 -- e, of a component's scene light in 1/2^40: its relative result over the sixth root of the luminance
 pub record SceneLight (s : Side) (peak : ℕ) (p : Pixel) (i : Component) (e : ℕ) : Type 0 where

@@ -1,5 +1,6 @@
 pub mod ReachLaws
 pub mod CodeLaws
+pub mod CancelledLaws
 mod ProductLaws
 pub mod NewtonLaws
 pub mod EnclosureLaws

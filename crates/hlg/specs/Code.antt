@@ -5,11 +5,12 @@ use Prim.Native.Nat.{ℕ, _+_, _*_, _^_}
 use lib.Dec.{leb, ltb}
 use Rattle.laws.specs.Largest.{largest}
 use Rattle.quantity.specs.Units.{thousand}
+use Rattle.quantity.specs.Component.{pixel, weighted}
 use Rattle.hlg_steps.specs.StepTable.{step}
 
 -- Y, the luminance of the mapped three, in ten-thousandths of a unit
 abbrev pub luminance : ℕ → ℕ → ℕ → ℕ
-luminance r g b = 2627 * r + 6780 * g + 593 * b
+luminance r g b = weighted (pixel r g b)
 
 -- a component R of a pixel with luminance Y reaches the step T: T⁶ × A⁵ × Y ≤ 2²⁴⁰ × 10,000 × R⁶, with R above 0
 unfoldable pub reaches : ℕ → ℕ → ℕ → Bool
