@@ -1,4 +1,6 @@
-// The three quantities that the engine counts in, each a type of its own so that none is taken for another.
+// The quantities that the engine counts in, each a type of its own so that none is taken for another, and what is declared of a source picture.
+ghost use mathlib.Core.Path.{_≡_};
+ghost use Prim.Native.Nat.{min, max};
 
 // Light of the mastering or delivery display, in 1/16,777,216 cd/m2.
 pub struct DisplayLight(pub u64);
@@ -8,3 +10,27 @@ pub struct SceneLight(pub u64);
 
 // A PQ signal, in 1/897,024: 256 positions to each entry of the light table.
 pub struct Position(pub u64);
+
+// What is declared of a source picture: the peak that it was graded at, in whole cd/m2.
+pub struct Source {
+    pub peak: u64,
+}
+
+// The ends of a range: a stage that is given a number past one reads that end.
+pub fn smaller(a: u64, b: u64) -> u64
+    ensures { λ r. ⌜ r ≡ min a b ⌝ }
+{
+    if a < b {
+        return a;
+    }
+    b
+}
+
+pub fn larger(a: u64, b: u64) -> u64
+    ensures { λ r. ⌜ r ≡ max a b ⌝ }
+{
+    if a < b {
+        return b;
+    }
+    a
+}
