@@ -1,3 +1,4 @@
+/* SPDX-License-Identifier: MIT */
 /* The converter for hosts in C: PQ ten-bit narrow-range rows to HLG for a display of 1,000 cd/m2.
    Link target/staticlib/libpq_hlg.a, made by `rt staticlib pq_hlg` (x86-64 Linux). */
 #ifndef PQ_HLG_H
@@ -6,14 +7,20 @@
 #include <stddef.h>
 #include <stdint.h>
 
+/* Version of this interface. It grows when a host written for the last one must change: other parameters, or another
+   meaning of a number given or returned. CHANGELOG.md has a heading for each. */
+#define PQ_HLG_ABI 1
+
 #ifdef __cplusplus
 extern "C" {
 #endif
 
-/* Converts the pixels first to end - 1 of a row into the same places of dst; every other byte of dst remains.
+/* Converts the span of pixels from first up to, but not including, end. Each goes to its own place in dst; all bytes of dst
+   outside the span remain.
 
-   A pixel is three 16-bit samples, red, green, blue, high byte first, and a row has at most 8,192 pixels. The peak is the
-   title's declared peak in whole cd/m2. An empty span (first equal to end) is accepted.
+   A pixel is six bytes: red, green and blue as 16-bit samples, each with its high byte first. row holds PQ codes from 4 to
+   1,019, at most 8,192 pixels; dst gets HLG codes from 64 to 1,019 in the same layout. The peak is the one that the title
+   declares, in whole cd/m2. An empty span (first equal to end) is accepted.
 
    Returns 0, or a refusal plus 256 times its place (number % 256 and number / 256). A refused call leaves all of dst. The
    tests are made in this order:
@@ -21,12 +28,13 @@ extern "C" {
      6  row_len is no multiple of 6, or above 49,152
      7  dst_len differs from row_len
      8  first exceeds end, or end exceeds the row's pixels
-     9  a sample of the span is below 4 or above 1,019; the place is the first such sample, counted from 0 at the row's start
+     9  the span has a sample under 4 or over 1,019; the place says which one comes first, 0 being the row's first sample
    The place is 0 for 5 to 8. Samples outside the span are not looked at.
 
-   A pointer may be null only where its length is 0. row and dst must not overlap. Nothing is kept between calls, so calls on
-   different destinations may run at the same time. A call uses about 55 KiB of stack and no heap;
-   of the C library it calls memset alone. */
+   A pointer may be null only where its length is 0, and needs no alignment. row and dst must not overlap. The library has no
+   global state and no heap: nothing is kept between calls, and calls may run at the same time, also on one row, as long as no
+   call's dst overlaps a row or dst of another. An accepted call uses 54.4 KiB of stack, measured on the compiled library by
+   tests/host/stack.c, and the tests allow 72 KiB at most. Its one outside symbol is memset. */
 uint64_t pq_hlg_convert_row(uint64_t peak,
                             const uint8_t *row, size_t row_len,
                             uint8_t *dst, size_t dst_len,

@@ -1,4 +1,5 @@
-/* The row call from C: a grey of 1,000 cd/m2 and a red of the same code, then a refused sample.
+/* SPDX-License-Identifier: MIT */
+/* The row call from C: a grey of 1,004 cd/m2 under a peak of 1,000, a red of the same code, then a refused sample.
      rt staticlib pq_hlg
      gcc -O2 -Wall -Werror -Iinclude tests/host/example.c target/staticlib/libpq_hlg.a -o target/host/example_c
      target/host/example_c */
@@ -6,6 +7,10 @@
 #include <stdio.h>
 
 #include "pq_hlg.h"
+
+#if PQ_HLG_ABI != 1
+#error "written for version 1 of the interface"
+#endif
 
 static void put_sample(uint8_t *row, size_t i, unsigned code) {
     row[2 * i] = (uint8_t)(code >> 8);

@@ -1,4 +1,5 @@
-//! The row call for Rust: a safe function over the static library's one symbol.
+// SPDX-License-Identifier: MIT
+//! The row call for Rust: a safe function over the static library's one symbol, version 1 of its interface (PQ_HLG_ABI in include/pq_hlg.h).
 
 extern "C" {
     fn pq_hlg_convert_row(
