@@ -147,7 +147,7 @@ def spline_is_hermite():
 
 def highlight_curve():
     w = curve.position_of_peak(4_000)
-    yield "peak 4,000: codes to 656 are below the knee, 657 and up are not", all(
+    yield "peak 4,000: the knee lies between codes 656 and 657", all(
         curve.below_knee(curve.position_of_code(D), w) == (D <= 656) for D in range(64, 941))
     yield "code 64 has m 0", curve.position_of_code(64) == 0
     low = [curve.bend_code(D, L) for L in (1, 999, 1_000) for D in range(64, 941)]

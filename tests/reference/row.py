@@ -18,7 +18,7 @@ def pixels_of(samples):
 
 
 def convert_row(L, row, destination, first, end):
-    """Converts pixels first to end - 1 into the same places of `destination`, a bytearray.
+    """Converts the span from `first` up to `end`, itself not included, and writes it to its places in `destination`, a bytearray.
 
     Refusals 5 to 9 in this order; a refused call writes nothing.
     """
@@ -37,7 +37,7 @@ def convert_row(L, row, destination, first, end):
 
 
 def c_number(L, row, destination, first, end):
-    """What a host in C gets: 0, or the refusal plus 256 times its place."""
+    """One number for C: 0, or of a refusal its number and 256 times its place added up."""
     try:
         convert_row(L, row, destination, first, end)
     except Refused as refused:
