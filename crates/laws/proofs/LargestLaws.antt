@@ -1,8 +1,8 @@
 -- Laws of `largest`: what it finds, and how a search may narrow its range.
 use mathlib.Core.Path.{_≡_, refl, sym, _∙_, ap, ap₂, subst}
 use mathlib.Core.Logic.{_⊎_, inl, inr}
-use mathlib.Core.Bool.{Bool, true, false}
-use Prim.Native.Nat.{ℕ, zero, suc, _+_, _-_, _≤_, _<_}
+use mathlib.Core.Bool.{Bool, true, false, true≢false}
+use Prim.Native.Nat.{ℕ, zero, suc, _+_, _-_, _/_, _≤_, _<_}
 use native.Mathlib.Nat.{add-zero, add-suc, le-refl, le-antisymm}
 use native.Mathlib.Decide.{decLe}
 use native.Mathlib.Omega.{arith}
@@ -57,16 +57,13 @@ found f lo (suc n) = go (f (lo + suc n)) refl (found f lo n)
         }
 
 -- at most one number is what a search finds
-clash : {b : Bool} → b ≡ true → b ≡ false → ⊥
-clash p q = let z : true ≡ false = sym p ∙ q in let w : _≡_ {A = ℕ} 0 1 = cc in omega arith
-
 below : (f : ℕ → Bool) (lo n c d : ℕ) → Found f lo n c → Found f lo n d → c ≤ d
 below f lo n c d x y = go (decLe c d) (x .passes)
   where
     go : Dec (c ≤ d) → (c ≡ lo) ⊎ (f c ≡ true) → c ≤ d
     go (yes p) r = p
     go (no p) (inl e) = omega (arith, y .from)
-    go (no p) (inr t) = absurd (clash t (y .last c (omega arith) (x .to)))
+    go (no p) (inr t) = absurd (true≢false (sym t ∙ y .last c (omega arith) (x .to)))
 
 pub found-is : (f : ℕ → Bool) (lo n d : ℕ) → Found f lo n d → d ≡ largest f lo n
 found-is f lo n d x = le-antisymm (below f lo n d (largest f lo n) x (found f lo n)) (below f lo n (largest f lo n) d (found f lo n) x)
@@ -77,7 +74,7 @@ passes-le f lo n k h t = go (decLe k (largest f lo n))
   where
     go : Dec (k ≤ largest f lo n) → k ≤ largest f lo n
     go (yes p) = p
-    go (no p) = absurd (clash t (found f lo n .last k (omega arith) h))
+    go (no p) = absurd (true≢false (sym t ∙ found f lo n .last k (omega arith) h))
 
 -- a weaker test finds no less
 pub grows : (f g : ℕ → Bool) (lo n : ℕ) → ((k : ℕ) → f k ≡ true → g k ≡ true) → largest f lo n ≤ largest g lo n
@@ -86,3 +83,28 @@ grows f g lo n imp = go (found f lo n .passes)
     go : (largest f lo n ≡ lo) ⊎ (f (largest f lo n) ≡ true) → largest f lo n ≤ largest g lo n
     go (inl e) = omega (arith, found g lo n .from)
     go (inr t) = passes-le g lo n (largest f lo n) (found f lo n .to) (imp (largest f lo n) t)
+
+-- ---- halving, for any test that fails from where it fails once
+pub record Falling (f : ℕ → Bool) : Type 0 where
+  pub on : (j k : ℕ) → j ≤ k → f j ≡ false → f k ≡ false
+
+-- a search over a span of 0 stays where it is; else the middle decides one half: where it passes, what is found from it on, and where it
+-- fails, what is found below it
+module _ (f : ℕ → Bool) (from span : ℕ) where
+  pub no-span : span ≡ 0 → from ≡ largest f from span
+  unfolding largest
+  no-span e = sym (ap (largest f from) e)
+
+  module _ {r : ℕ} where
+    pub upper-half : f (from + (span - span / 2)) ≡ true → r ≡ largest f (from + (span - span / 2)) (span / 2) → r ≡ largest f from span
+    upper-half t h =
+        let e : span - span / 2 + span / 2 ≡ span = omega arith in
+        h ∙ sym (from-reached f from (span - span / 2) (span / 2) t) ∙ ap (largest f from) e
+
+    pub lower-half : Falling f → 0 < span → f (from + (span - span / 2)) ≡ false → r ≡ largest f from (span - span / 2 - 1)
+        → r ≡ largest f from span
+    lower-half falling p t h =
+        let e : span - span / 2 - 1 + (span / 2 + 1) ≡ span = omega arith in
+        h
+        ∙ sym (up-to f from (span - span / 2 - 1) (span / 2 + 1) (λ k a b. falling .on (from + (span - span / 2)) (from + k) (omega arith) t))
+        ∙ ap (largest f from) e

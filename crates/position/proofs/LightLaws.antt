@@ -1,14 +1,14 @@
 -- Lights of positions and of codes: over any table of entries that grow, then of the light table itself.
-use mathlib.Core.Path.{_≡_, refl, sym, ap, _∙_}
+use mathlib.Core.Path.{_≡_, sym, ap, _∙_}
 use mathlib.Core.List.{List}
 use Prim.Native.Nat.{ℕ, min, _+_, _-_, _*_, _/_, _%_, _≤_, _<_}
 use native.Mathlib.Nat.{le-trans, mul-le-mul-left, zero-lt-suc, mul-add-div}
 use native.Mathlib.Decide.{decLe}
 use native.Mathlib.Omega.{arith}
 use lib.ListN.{getD}
-use Rattle.quantity.specs.Units.{units, tenThousand, lastPosition}
+use Rattle.quantity.specs.Units.{tenThousand, lastPosition}
 use Rattle.pq.specs.LightTable.{lightTable, lightEntry}
-use Rattle.pq.proofs.EntryLaws.{entries-grow}
+use Rattle.pq.proofs.EntryLaws.{entries-grow, entry-first, entry-last, entry-past}
 use Rattle.position.specs.Position.{codeRead, codeLightIn, lightAtIn, codeLight, lightAt}
 
 -- a part f of 256 of a height d: no more than d, and by whole cells of 256 and the rest
@@ -68,39 +68,26 @@ pub light-at-entry : (k : ℕ) → lightAt (256 * k) ≡ lightEntry k
 unfolding lightAt
 light-at-entry = entry-in lightEntry
 
--- the two ends of the table
-pub first-entry : lightEntry 0 ≡ 0
-unfolding lightEntry lightTable
-first-entry = refl
-
-pub last-entry : lightEntry 3504 ≡ tenThousand
-unfolding lightEntry lightTable units tenThousand
-last-entry = refl
-
 pub first-light : lightAt 0 ≡ 0
-first-light = light-at-entry 0 ∙ first-entry
-
-past-entry : (k : ℕ) → 3504 ≤ k → lightEntry k ≡ lightEntry 3504
-unfolding lightEntry
-past-entry k h = ap (λ (i : ℕ). getD lightTable i 0) (omega arith)
+first-light = light-at-entry 0 ∙ entry-first
 
 -- from the last position on, the light is the last entry's, 10,000 cd/m2
 pub past-range : (q : ℕ) → lastPosition ≤ q → lightAt q ≡ lightEntry 3504
 unfolding lightAt lastPosition
 past-range q h =
-    let e = past-entry (q / 256) (omega arith) in
-    let f = past-entry (q / 256 + 1) (omega arith) in
+    let e : lightEntry (q / 256) ≡ lightEntry 3504 = entry-past (q / 256) ∙ ap lightEntry (omega arith) in
+    let f : lightEntry (q / 256 + 1) ≡ lightEntry 3504 = entry-past (q / 256 + 1) ∙ ap lightEntry (omega arith) in
     rw (e, f) (let d : lightEntry 3504 - lightEntry 3504 ≡ 0 = omega arith in rw d (omega arith))
 
 pub last-light : lightAt lastPosition ≡ tenThousand
-last-light = past-range lastPosition (omega arith) ∙ last-entry
+last-light = past-range lastPosition (omega arith) ∙ entry-last
 
 pub light-at-most : (q : ℕ) → lightAt q ≤ tenThousand
 light-at-most q = go (decLe q lastPosition)
   where
     go : Dec (q ≤ lastPosition) → lightAt q ≤ tenThousand
     go (yes h) = omega (arith, light-grows q lastPosition h, last-light)
-    go (no h) = omega (arith, past-range q (omega arith), last-entry)
+    go (no h) = omega (arith, past-range q (omega arith), entry-last)
 
 -- a code's light is that at its own position, four entries to a code
 pub code-light-at : (D : ℕ) → codeLight D ≡ lightAt (1024 * (codeRead D - 64))

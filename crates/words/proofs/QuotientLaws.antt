@@ -1,27 +1,23 @@
 -- A tested quotient: the rest that the lower words leave makes the product where there is a rest below the divisor, and nowhere else.
 use mathlib.Core.Path.{_≡_, sym, _∙_, ap, ap₂}
-use mathlib.Core.Bool.{Bool, true, false, _&&_, true≢false}
+use mathlib.Core.Bool.{Bool, true, false, _&&_, and-eq-true-iff}
 use Prim.Native.Nat.{ℕ, _+_, _*_, _/_, _%_, _^_, _≤_, _<_}
 use native.Mathlib.Nat.{lt-of-not-le}
 use native.Mathlib.Decide.{decLe, decLt}
 use native.Mathlib.Omega.{arith}
 use lib.Dec.{leb, ltb}
-use borrow.Author.Tests.{lt-ltb, le-ltb, le-leb, lt-leb}
+use borrow.Author.Tests.{ltb-true, leb-true, lt-ltb, le-ltb, le-leb, lt-leb}
 use Rattle.laws.proofs.DivisionLaws.{floor-is}
 use Rattle.words.specs.Quotient.{isQuotient}
-
-clash : {b : Bool} → b ≡ true → b ≡ false → ⊥
-clash p q = true≢false (sym p ∙ q)
 
 -- what passes the test is the floor
 pub quotient-is : (q n m : ℕ) → isQuotient q n m ≡ true → q ≡ n / m
 unfolding isQuotient
-quotient-is q n m e = go (decLe (q * m) n) (decLt n (q * m + m))
-  where
-    go : Dec (q * m ≤ n) → Dec (n < q * m + m) → q ≡ n / m
-    go (yes l) (yes h) = let pos : 0 < m = omega arith in let high : n < (q + 1) * m = omega arith in floor-is pos .1 (l, high)
-    go (no l) h = absurd (clash e (ap (λ (b : Bool). b && ltb n (q * m + m)) (lt-leb (q * m) n (lt-of-not-le l))))
-    go (yes l) (no h) = absurd (clash e (ap₂ _&&_ (le-leb (q * m) n l) (le-ltb n (q * m + m) (omega arith))))
+quotient-is q n m e =
+    let w = and-eq-true-iff (leb (q * m) n) (ltb n (q * m + m)) .0 e in
+    let low : q * m ≤ n = leb-true (q * m) n (w .0) in
+    let high : n < q * m + m = ltb-true n (q * m + m) (w .1) in
+    floor-is {q = q} {a = n} {b = m} (omega arith) .1 (low, omega arith)
 
 -- where q m and r make n, r alone decides
 pub rest-decides : (q n m r : ℕ) → q * m + r ≡ n → ltb r m ≡ isQuotient q n m
