@@ -1,5 +1,5 @@
 -- The Hermite spline of the published tone mapping (document 002, A.3.1, in its own names) with both black levels zero, and the scope's
--- form of it. X, J and H are the PQ signals of the brightest light, of 1,000 cd/m2 and of the peak, over one denominator.
+-- form of it. Over one denominator: X the PQ signal of a pixel's brightest light, J that of 1,000 cd/m2, H the peak's.
 use mathlib.Core.Path.{_≡_}
 use Prim.Native.Nat.{ℕ, _+_, _-_, _*_, _≤_, _<_}
 

@@ -1,6 +1,7 @@
 -- The HLG steps: each is the one that the rule asks for and stands on both sides of its signal, and they rise. From one pass of the step's test.
 use mathlib.Core.Path.{_≡_, refl, subst, ap}
 use mathlib.Core.Logic.{_⊎_, inl, inr}
+use mathlib.Core.List.{List}
 use Prim.Native.Nat.{ℕ, min, max, _+_, _-_, _^_, _≤_, _<_}
 use native.Mathlib.Nat.{le-of-eq, le-of-lt, eq-or-lt-of-le, lt-of-le-of-lt}
 use native.Mathlib.Omega.{arith}
@@ -16,6 +17,11 @@ use Rattle.hlg_steps.proofs.StepTests.{Passed, stepTest, step-test, ste
 pub table-length : length stepTable ≡ 955
 unfolding stepTable
 table-length = refl
+
+-- what is read of the table, or of an array that holds it, at a code's place
+pub step-read : (t : List ℕ) (d : ℕ) → t ≡ stepTable → getD t (min (d - 65) 954) 0 ≡ step d
+unfolding step
+step-read t d h = ap (λ (l : List ℕ). getD l (min (d - 65) 954) 0) h
 
 -- ---- the rule
 passed-at : (i : ℕ) → i < 955 → Passed (65 + i) (getD stepTable i 0)

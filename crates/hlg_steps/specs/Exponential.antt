@@ -11,7 +11,7 @@ unfoldable pub sumNum : ℕ → ℕ → ℕ → ℕ
 sumNum p q zero = 1
 sumNum p q (suc n) = sumNum p q n * (suc n * q) + p ^ suc n
 
--- x / z against exp(p / q): at most it when some partial sum is at least as large, at least it when no partial sum is larger
+-- x / z against exp(p / q): at most it where one of the partial sums reaches x / z, at least it where x / z reaches all of them
 unfoldable pub Exponential : Side → ℕ → ℕ → ℕ → ℕ → Type 0
 Exponential low x z p q = (n : ℕ) × (x * sumDen q n ≤ sumNum p q n * z)
 Exponential high x z p q = (n : ℕ) → sumNum p q n * z ≤ x * sumDen q n

@@ -1,5 +1,5 @@
--- The HLG signal g of a scene light E (scope, HLG code and The exact value: HLG signal), BT.2100's OETF. Both are fractions of their ranges.
--- a = 0.17883277, b = 0.28466892 and c = 0.55991073 as exact decimals, here times 10^8.
+-- The HLG signal g of a scene light E: BT.2100's HLG OETF (scope, HLG code and The exact value: HLG signal). Both are fractions of their ranges.
+-- Its constants are exact decimals, here times 10^8: a = 0.17883277, b = 0.28466892 and c = 0.55991073.
 use mathlib.Core.Path.{_≡_}
 use mathlib.Core.Logic.{_⊎_}
 use Prim.Native.Nat.{ℕ, _-_, _*_, _≤_, _<_}
@@ -31,6 +31,6 @@ Logarithm s E g =
     ((belowC g ≡ 0) × Exponential (other s) (innerNum E) (innerDen E) (aboveC g) (slope g)) ⊎
     ((0 < belowC g) × Exponential s (innerDen E) (innerNum E) (belowC g) (slope g))
 
--- the square root of 3E for E up to 1/12, the logarithm above
+-- the root of 3E where E is at most 1/12, else the logarithm
 unfoldable pub HlgSignal : Side → Fraction → Fraction → Type 0
 HlgSignal s E g = ((12 * E .num ≤ E .den) × Bounds s (g · g) (whole 3 · E)) ⊎ ((E .den < 12 * E .num) × Logarithm s E g)

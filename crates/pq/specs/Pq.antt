@@ -1,5 +1,6 @@
 -- The PQ value of a light and the rule of the light table (scope, Light: PQ value). Lights and signals are fractions, light in units.
--- Light l has the PQ value V with V^32 = r^2523, r = (3424 + 77216w) / (4096 + 76544w), w^8192 = (l / 10,000N)^1305. Every power is
+-- Light l has the PQ value V with V^32 = r^2523, r = (3424 + 77216w) / (4096 + 76544w), w^8192 = (l / 10,000N)^1305. In SMPTE ST 2084
+-- m1 = 1305/8192 (2610/16384), m2 = 2523/32, c1 = 3424/4096, c2 = 77216/4096 (2413/128) and c3 = 76544/4096 (2392/128). Every power is
 -- cross-multiplied; r grows with w, so a fraction on one side of w gives a fraction on the same side of V.
 use mathlib.Core.Path.{_≡_}
 use Prim.Native.Nat.{ℕ, zero, suc, _+_, _*_, _^_, _≤_, _<_}
@@ -7,7 +8,7 @@ use native.Mathlib.Nat.{zero-lt-suc}
 use Rattle.laws.specs.Fraction.{Fraction, over, whole}
 use Rattle.quantity.specs.Units.{tenThousand}
 
--- r at w = a / b is ratioNum a b / ratioDen a b
+-- r, (c1 + c2 w) / (1 + c3 w), at w = a / b is ratioNum a b / ratioDen a b
 unfoldable pub ratioNum : ℕ → ℕ → ℕ
 ratioNum a b = 3424 * b + 77216 * a
 

@@ -1,4 +1,6 @@
 // The PQ EOTF as a table of light, and the one way into it.
+mod table;
+
 ghost use mathlib.Core.Path.{_≡_};
 ghost use Prim.Native.Nat.{min};
 ghost use lib.ListN.{getD};
@@ -7,7 +9,21 @@ ghost use Rattle.pq.specs.LightTable.{lightTable, lightEntry};
 use quantity::DisplayLight;
 use table::LIGHT_TABLE;
 
-mod table;
+// P[k]: the light of the PQ signal k/3504 in whole units, rounded down.
+pub fn light_entry(k: u64) -> DisplayLight
+    ensures { λ r. ⌜ (r .0 ≡ lightEntry k) × IsEntry (min k 3504) (r .0) ⌝ }
+{
+    let table = light_table();
+    entry_in(&table, k)
+}
+
+// Entry k of a lent table, whatever it holds.
+pub fn entry_in(table: &[u64; 3505], k: u64) -> DisplayLight
+    ensures { λ r. ⌜ r .0 ≡ getD (now (table .entry)) (min k 3504) 0 ⌝ }
+{
+    let i = nearest_index(k) as usize;
+    DisplayLight(table[i])
+}
 
 // The table, filled once by whoever converts many pixels: each mention of the constant stores 3,505 numbers.
 pub fn light_table() -> [u64; 3505]
@@ -24,20 +40,4 @@ fn nearest_index(k: u64) -> u64
         return 3504;
     }
     k
-}
-
-// Entry k of a lent table, whatever it holds.
-pub fn entry_in(table: &[u64; 3505], k: u64) -> DisplayLight
-    ensures { λ r. ⌜ r .0 ≡ getD (now (table .entry)) (min k 3504) 0 ⌝ }
-{
-    let i = nearest_index(k) as usize;
-    DisplayLight(table[i])
-}
-
-// P[k]: the light of the PQ signal k/3504 in whole units, rounded down.
-pub fn light_entry(k: u64) -> DisplayLight
-    ensures { λ r. ⌜ (r .0 ≡ lightEntry k) × IsEntry (min k 3504) (r .0) ⌝ }
-{
-    let table = light_table();
-    entry_in(&table, k)
 }

@@ -1,5 +1,5 @@
--- The units in which light is counted (scope, Light and HLG code), and the ends of the ranges. Each constant is named here, once.
-use Prim.Native.Nat.{ℕ, _*_, _^_}
+-- The unit in which display light is counted (scope, Light), and the ends of its range and of the positions'.
+use Prim.Native.Nat.{ℕ, _*_}
 
 -- N: units of display light in one cd/m2
 unfoldable pub units : ℕ
@@ -15,13 +15,6 @@ unfoldable pub tenThousand : ℕ
 unfolding units
 tenThousand = 10000 * units
 
--- units of scene light in the whole HLG range: scene light is counted in 1/2^40
-unfoldable pub sceneUnits : ℕ
-sceneUnits = 2 ^ 40
-
--- the last index of the light table, and the last position, 256 to an entry
-unfoldable pub lastIndex : ℕ
-lastIndex = 3504
-
+-- the last position, that of 10,000 cd/m2: 256 to each of the light table's 3,504 steps
 unfoldable pub lastPosition : ℕ
 lastPosition = 897024

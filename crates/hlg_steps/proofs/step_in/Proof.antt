@@ -6,17 +6,8 @@ use borrow.Author.Needs.{needs}
 use Rattle.hlg_steps.proofs.step_in.Statement.{statement}
 use Rattle.hlg_steps.proofs.step_in.Tie as tie
 
-place-of-requires : tie.Need-place-of-requires
-place-of-requires c κs = search needs
-
-mul-t4 : tie.Need-mul-t4
-mul-t4 c = search needs
-
-element-copy-out-t7 : tie.Need-element-copy-out-t7
-element-copy-out-t7 c = search needs
-
 returns : tie.Need-returns
 returns c = ap (λ (i : ℕ). getD (c .before .before .args .table .now) i 0) (c .before .place-of .ensures)
 
 pub step-in-spec : {M : Type 1} → statement M
-step-in-spec = tie.close (tie.spec place-of-requires mul-t4 element-copy-out-t7 returns)
+step-in-spec = tie.close (tie.spec (λ c κs. search needs) (λ c. search needs) (λ c. search needs) returns)
