@@ -1,4 +1,4 @@
-// Lights of codes and of positions, and the position of a light. Each call reads the light table; those ending in `_in` read one that is lent.
+// The position of a light, and the lights of positions and of codes. Each call reads the light table; those ending in `_in` read a lent one.
 ghost use mathlib.Core.Path.{_≡_};
 ghost use Prim.Native.Nat.{ℕ, min, _+_, _*_, _/_, _^_, _≤_, _<_};
 ghost use lib.Dec.{leb};
@@ -9,61 +9,23 @@ ghost use Rattle.position.specs.Position.{codeRead, codeLightIn, lightAt
 use pq::entry_in;
 use pq::light_table;
 use quantity::DisplayLight;
+use quantity::LAST_POSITION;
 use quantity::Position;
 
-// A code as it is read. Narrow range: what lies below black or above full signal is read as that.
-pub fn read_code(d: u64) -> u64
-    ensures { λ r. ⌜ r ≡ codeRead d ⌝ }
-{
-    if d < 64 {
-        return 64;
-    }
-    if 940 < d {
-        return 940;
-    }
-    d
-}
-
-// The light of a code. Four entries of the table to a code.
-pub fn light_of_code_in(table: &[u64; 3505], d: u64) -> DisplayLight
-    ensures { λ r. ⌜ r .0 ≡ codeLightIn (λ (k : ℕ). getD (now (table .entry)) (min k 3504) 0) d ⌝ }
-{
-    entry_in(table, 4 * (read_code(d) - 64))
-}
-
-// f of the 256 parts of a rise, rounded down. Their product may pass 64 bits, so the rise is split at 256.
-fn interpolate(rise: u64, f: u64) -> u64
-    requires { ⌜ f < 256 ⌝ }
-    ensures { λ r. ⌜ (r ≡ rise * f / 256) × (r ≤ rise) ⌝ }
-{
-    rise / 256 * f + rise % 256 * f / 256
-}
-
-// The light at a position: in a straight line from one entry to the next, rounded down.
-pub fn light_in(table: &[u64; 3505], q: Position) -> DisplayLight
-    ensures { λ r. ⌜ r .0 ≡ lightAtIn (λ (k : ℕ). getD (now (table .entry)) (min k 3504) 0) (q .0) ⌝ }
-{
-    let k = q.0 / 256;
-    let low = entry_in(table, k);
-    let high = entry_in(table, k + 1);
-    if high.0 <= low.0 {
-        return low;
-    }
-    DisplayLight(low.0 + interpolate(high.0 - low.0, q.0 % 256))
-}
-
-pub fn light_of_code(d: u64) -> DisplayLight
-    ensures { λ r. ⌜ r .0 ≡ codeLight d ⌝ }
+// The position of a light; a light past 10,000 cd/m2 has the last one.
+pub fn position_of(l: DisplayLight) -> Position
+    ensures { λ r. ⌜ r .0 ≡ positionOf (l .0) ⌝ }
 {
     let table = light_table();
-    light_of_code_in(&table, d)
+    Position(search_position(&table, l.0, 0, LAST_POSITION))
 }
 
-pub fn light_at(q: Position) -> DisplayLight
-    ensures { λ r. ⌜ r .0 ≡ lightAt (q .0) ⌝ }
+// The light table into a lent array, and on it the position of a light: one filling serves a whole call.
+pub fn fill_lights(table: &mut [u64; 3505], l: DisplayLight) -> Position
+    ensures { λ r. ⌜ (now (table .exit) ≡ lightTable) × (r .0 ≡ positionOf (l .0)) ⌝ }
 {
-    let table = light_table();
-    light_in(&table, q)
+    *table = light_table();
+    Position(search_position(table, l.0, 0, LAST_POSITION))
 }
 
 // The largest of the positions from + 1 .. from + span whose light doesn't exceed l, else from. The span falls.
@@ -85,18 +47,59 @@ fn search_position(table: &[u64; 3505], l: u64, from: u64, span: u64) -> u64
     }
 }
 
-// The position of a light; a light past 10,000 cd/m2 has the last one.
-pub fn position_of(l: DisplayLight) -> Position
-    ensures { λ r. ⌜ r .0 ≡ positionOf (l .0) ⌝ }
+// The light at a position: in a straight line from one entry to the next, rounded down.
+pub fn light_at(q: Position) -> DisplayLight
+    ensures { λ r. ⌜ r .0 ≡ lightAt (q .0) ⌝ }
 {
     let table = light_table();
-    Position(search_position(&table, l.0, 0, 897024))
+    light_in(&table, q)
 }
 
-// The light table into a lent array, and on it the position of a light: one filling serves a whole call.
-pub fn fill_lights(table: &mut [u64; 3505], l: DisplayLight) -> Position
-    ensures { λ r. ⌜ (now (table .exit) ≡ lightTable) × (r .0 ≡ positionOf (l .0)) ⌝ }
+// The same on a lent table, whatever it holds.
+pub fn light_in(table: &[u64; 3505], q: Position) -> DisplayLight
+    ensures { λ r. ⌜ r .0 ≡ lightAtIn (λ (k : ℕ). getD (now (table .entry)) (min k 3504) 0) (q .0) ⌝ }
 {
-    *table = light_table();
-    Position(search_position(table, l.0, 0, 897024))
+    let k = q.0 / 256;
+    let low = entry_in(table, k);
+    let high = entry_in(table, k + 1);
+    if high.0 <= low.0 {
+        return low;
+    }
+    DisplayLight(low.0 + interpolate(high.0 - low.0, q.0 % 256))
+}
+
+// f of the 256 parts of a rise, rounded down. Their product may pass 64 bits, so the rise is split at 256.
+fn interpolate(rise: u64, f: u64) -> u64
+    requires { ⌜ f < 256 ⌝ }
+    ensures { λ r. ⌜ (r ≡ rise * f / 256) × (r ≤ rise) ⌝ }
+{
+    rise / 256 * f + rise % 256 * f / 256
+}
+
+// The light of a code. Four entries of the table to a code.
+pub fn light_of_code(d: u64) -> DisplayLight
+    ensures { λ r. ⌜ r .0 ≡ codeLight d ⌝ }
+{
+    let table = light_table();
+    light_of_code_in(&table, d)
+}
+
+// The same on a lent table, whatever it holds.
+pub fn light_of_code_in(table: &[u64; 3505], d: u64) -> DisplayLight
+    ensures { λ r. ⌜ r .0 ≡ codeLightIn (λ (k : ℕ). getD (now (table .entry)) (min k 3504) 0) d ⌝ }
+{
+    entry_in(table, 4 * (read_code(d) - 64))
+}
+
+// A code as it is read. Narrow range: what lies below black or above full signal is read as that.
+pub fn read_code(d: u64) -> u64
+    ensures { λ r. ⌜ r ≡ codeRead d ⌝ }
+{
+    if d < 64 {
+        return 64;
+    }
+    if 940 < d {
+        return 940;
+    }
+    d
 }

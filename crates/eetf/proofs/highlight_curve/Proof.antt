@@ -10,32 +10,11 @@ use Rattle.eetf.proofs.CurveLaws.{unbent, on-light-table}
 use Rattle.eetf.proofs.highlight_curve.Statement.{statement}
 use Rattle.eetf.proofs.highlight_curve.Tie as tie
 
-larger-requires : tie.Need-larger-requires
-larger-requires c κs = search needs
-
-smaller-requires : tie.Need-smaller-requires
-smaller-requires c κs = search needs
-
-smaller-requires-2 : tie.Need-smaller-requires-2
-smaller-requires-2 c κs = search needs
-
 returns : tie.Need-returns
 unfolding units thousand tenThousand
 returns c =
     let a = c .before .before .before .before .args in
     omega (arith, unbent (peakRead (a .peak)) (min (a .m1 .0) tenThousand) (min (a .m .0) lastPosition) (omega arith))
-
-mul-t7 : tie.Need-mul-t7
-mul-t7 c = search needs
-
-position-of-requires : tie.Need-position-of-requires
-position-of-requires c κs = search needs
-
-light-table-requires : tie.Need-light-table-requires
-light-table-requires c κs = search needs
-
-knee-curve-requires : tie.Need-knee-curve-requires
-knee-curve-requires c κs = search needs
 
 returns-2 : tie.Need-returns-2
 unfolding units
@@ -50,12 +29,12 @@ pub highlight-curve-spec : {M : Type 1} → statement M
 highlight-curve-spec =
     tie.close
     (tie.spec
-    larger-requires
-    smaller-requires
-    smaller-requires-2
+    (λ c κs. search needs)
+    (λ c κs. search needs)
+    (λ c κs. search needs)
     returns
-    mul-t7
-    position-of-requires
-    light-table-requires
-    knee-curve-requires
+    (λ c. search needs)
+    (λ c κs. search needs)
+    (λ c κs. search needs)
+    (λ c κs. search needs)
     returns-2)

@@ -9,30 +9,6 @@ use Rattle.eetf.proofs.CurveLaws.{below-knee, from-knee}
 use Rattle.eetf.proofs.knee_curve.Statement.{statement}
 use Rattle.eetf.proofs.knee_curve.Tie as tie
 
-larger-requires : tie.Need-larger-requires
-larger-requires c κs = search needs
-
-smaller-requires : tie.Need-smaller-requires
-smaller-requires c κs = search needs
-
-smaller-requires-2 : tie.Need-smaller-requires-2
-smaller-requires-2 c κs = search needs
-
-smaller-requires-3 : tie.Need-smaller-requires-3
-smaller-requires-3 c κs = search needs
-
-mul-if1 : tie.Need-mul-if1
-mul-if1 c = search needs
-
-add-if1 : tie.Need-add-if1
-add-if1 c = search needs
-
-mul-if1-2 : tie.Need-mul-if1-2
-mul-if1-2 c = search needs
-
-smaller-requires-4 : tie.Need-smaller-requires-4
-smaller-requires-4 c κs = search needs
-
 returns : tie.Need-returns
 unfolding units tenThousand lastPosition
 returns c =
@@ -42,12 +18,6 @@ returns c =
     let P : ℕ → ℕ = λ (k : ℕ). getD (a .lights .now) (min k 3504) 0 in
     let stays = below-knee P (a .w .0) (min (a .m1 .0) tenThousand) (min (a .m .0) lastPosition) end at (omega arith) (omega arith) (omega arith) in
     c .smaller4 .ensures ∙ sym stays
-
-spline-position-requires : tie.Need-spline-position-requires
-spline-position-requires c κs = search needs
-
-light-in-requires : tie.Need-light-in-requires
-light-in-requires c κs = search needs
 
 returns-2 : tie.Need-returns-2
 unfolding units tenThousand lastPosition
@@ -63,15 +33,15 @@ pub knee-curve-spec : {M : Type 1} → statement M
 knee-curve-spec =
     tie.close
     (tie.spec
-    larger-requires
-    smaller-requires
-    smaller-requires-2
-    smaller-requires-3
-    mul-if1
-    add-if1
-    mul-if1-2
-    smaller-requires-4
+    (λ c κs. search needs)
+    (λ c κs. search needs)
+    (λ c κs. search needs)
+    (λ c κs. search needs)
+    (λ c. search needs)
+    (λ c. search needs)
+    (λ c. search needs)
+    (λ c κs. search needs)
     returns
-    spline-position-requires
-    light-in-requires
+    (λ c κs. search needs)
+    (λ c κs. search needs)
     returns-2)

@@ -13,20 +13,11 @@ dark : (c m1 m2 : ℕ) → m1 ≡ 0 → 0 ≡ mappedLight (min c m1) m1 m2
 unfolding mappedLight
 dark c m1 m2 e = sym (ap (λ (x : ℕ). min c x * m2 / x) e ∙ div-zero (min c 0 * m2))
 
-smaller-requires : tie.Need-smaller-requires
-smaller-requires c κs = search needs
-
 returns : tie.Need-returns
 unfolding units thousand tenThousand
 returns c =
     let a = c .before .before .args in
     dark (a .c .0) (min (a .m1 .0) 167772160000) (min (a .m2 .0) 16777216000) (omega arith)
-
-smaller-requires-2 : tie.Need-smaller-requires-2
-smaller-requires-2 c κs = search needs
-
-smaller-requires-3 : tie.Need-smaller-requires-3
-smaller-requires-3 c κs = search needs
 
 scale-requires : tie.Need-scale-requires
 unfolding units tenThousand
@@ -38,11 +29,4 @@ returns-2 c = cc
 
 pub map-component-spec : {M : Type 1} → statement M
 map-component-spec =
-    tie.close
-    (tie.spec
-    smaller-requires
-    returns
-    smaller-requires-2
-    smaller-requires-3
-    scale-requires
-    returns-2)
+    tie.close (tie.spec (λ c κs. search needs) returns (λ c κs. search needs) (λ c κs. search needs) scale-requires returns-2)

@@ -20,15 +20,9 @@ mul-lower : tie.Need-mul-lower
 unfolding units tenThousand
 mul-lower c = omega (arith, product-le (c .args .c) (c .args .m2 % 131072) (omega arith) (omega arith))
 
-div-result : tie.Need-div-result
-div-result c = search needs
-
 mul-result : tie.Need-mul-result
 unfolding units tenThousand
 mul-result c = omega (arith, ratio-le (c .args .c) (c .args .m1) (c .args .m2 / 131072) (omega arith))
-
-rem-result : tie.Need-rem-result
-rem-result c = search needs
 
 mul-result-2 : tie.Need-mul-result-2
 unfolding units tenThousand
@@ -42,9 +36,6 @@ add-result c =
       mod-lt (c .args .c * (c .args .m2 / 131072)) {m = c .args .m1} (omega arith),
       product-le (c .args .c) (c .args .m2 % 131072) (omega arith) (omega arith),
     )
-
-div-result-2 : tie.Need-div-result-2
-div-result-2 c = search needs
 
 add-result-2 : tie.Need-add-result-2
 unfolding units tenThousand
@@ -69,11 +60,11 @@ scale-spec =
     (tie.spec
     mul-upper
     mul-lower
-    div-result
+    (λ c. search needs)
     mul-result
-    rem-result
+    (λ c. search needs)
     mul-result-2
     add-result
-    div-result-2
+    (λ c. search needs)
     add-result-2
     returns)

@@ -17,12 +17,6 @@ cube-le a b h k =
     let far : 3 * b ≤ 674406 = omega arith in
     omega (arith, mul-le-mul h (mul-le-mul h h), mul-le-mul-left (b * b) far)
 
-sub-a : tie.Need-sub-a
-sub-a c = search needs
-
-sub-b : tie.Need-sub-b
-sub-b c = search needs
-
 mul-square : tie.Need-mul-square
 mul-square c = omega (arith, square-le (c .args .w - 674406) (omega arith))
 
@@ -59,8 +53,8 @@ pub spline-position-spec : {M : Type 1} → statement M
 spline-position-spec =
     tie.close
     (tie.spec
-    sub-a
-    sub-b
+    (λ c. search needs)
+    (λ c. search needs)
     mul-square
     mul-square-2
     mul-result

@@ -11,21 +11,6 @@ use Rattle.hlg.specs.Code.{luminance, reaches, hlgCode}
 use Rattle.hlg.proofs.hlg_codes.Statement.{statement}
 use Rattle.hlg.proofs.hlg_codes.Tie as tie
 
-read-component-requires : tie.Need-read-component-requires
-read-component-requires c κs = search needs
-
-read-component-requires-2 : tie.Need-read-component-requires-2
-read-component-requires-2 c κs = search needs
-
-read-component-requires-3 : tie.Need-read-component-requires-3
-read-component-requires-3 c κs = search needs
-
-weigh-requires : tie.Need-weigh-requires
-weigh-requires c κs = search needs
-
-step-table-requires : tie.Need-step-table-requires
-step-table-requires c κs = search needs
-
 search-code-requires : tie.Need-search-code-requires
 unfolding thousand
 search-code-requires c κs = (c .before .step-table .ensures, omega arith, omega arith, lit< tt)
@@ -63,11 +48,11 @@ pub hlg-codes-spec : {M : Type 1} → statement M
 hlg-codes-spec =
     tie.close
     (tie.spec
-    read-component-requires
-    read-component-requires-2
-    read-component-requires-3
-    weigh-requires
-    step-table-requires
+    (λ c κs. search needs)
+    (λ c κs. search needs)
+    (λ c κs. search needs)
+    (λ c κs. search needs)
+    (λ c κs. search needs)
     search-code-requires
     search-code-requires-2
     search-code-requires-3

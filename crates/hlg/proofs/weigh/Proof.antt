@@ -24,8 +24,6 @@ add-result-2 : tie.Need-add-result-2
 unfolding thousand
 add-result-2 c = search needs
 
-returns : tie.Need-returns
-returns c = search needs
-
 pub weigh-spec : {M : Type 1} → statement M
-weigh-spec = tie.close (tie.spec mul-result mul-result-2 add-result mul-result-3 add-result-2 returns)
+weigh-spec =
+    tie.close (tie.spec mul-result mul-result-2 add-result mul-result-3 add-result-2 (λ c. search needs))

@@ -5,12 +5,10 @@ use Rattle.position.specs.Position.{positionOf}
 use Rattle.position.proofs.fill_lights.Statement.{statement}
 use Rattle.position.proofs.fill_lights.Tie as tie
 
-search-position-requires : tie.Need-search-position-requires
-search-position-requires c κs = search needs
-
 returns : tie.Need-returns
 unfolding positionOf lastPosition
 returns c = (c .before .before .light-table .ensures, c .search-position .ensures)
 
 pub fill-lights-spec : {M : Type 1} → statement M
-fill-lights-spec = tie.close (tie.spec (λ c κs. search needs) search-position-requires returns)
+fill-lights-spec =
+    tie.close (tie.spec (λ c κs. search needs) (λ c κs. search needs) returns)

@@ -5,15 +5,10 @@ use Rattle.position.proofs.LightLaws.{lent-light}
 use Rattle.position.proofs.light_at.Statement.{statement}
 use Rattle.position.proofs.light_at.Tie as tie
 
-light-table-requires : tie.Need-light-table-requires
-light-table-requires c κs = search needs
-
-light-in-requires : tie.Need-light-in-requires
-light-in-requires c κs = search needs
-
 returns : tie.Need-returns
 returns c =
     c .light-in .ensures ∙ lent-light (c .before .before .light-table .result) (c .before .before .before .args .q .0) (c .before .before .light-table .ensures)
 
 pub light-at-spec : {M : Type 1} → statement M
-light-at-spec = tie.close (tie.spec light-table-requires light-in-requires returns)
+light-at-spec =
+    tie.close (tie.spec (λ c κs. search needs) (λ c κs. search needs) returns)

@@ -5,15 +5,10 @@ use Rattle.position.proofs.LightLaws.{lent-code-light}
 use Rattle.position.proofs.light_of_code.Statement.{statement}
 use Rattle.position.proofs.light_of_code.Tie as tie
 
-light-table-requires : tie.Need-light-table-requires
-light-table-requires c κs = search needs
-
-light-of-code-in-requires : tie.Need-light-of-code-in-requires
-light-of-code-in-requires c κs = search needs
-
 returns : tie.Need-returns
 returns c =
     c .light-of-code-in .ensures ∙ lent-code-light (c .before .before .light-table .result) (c .before .before .before .args .d) (c .before .before .light-table .ensures)
 
 pub light-of-code-spec : {M : Type 1} → statement M
-light-of-code-spec = tie.close (tie.spec light-table-requires light-of-code-in-requires returns)
+light-of-code-spec =
+    tie.close (tie.spec (λ c κs. search needs) (λ c κs. search needs) returns)

@@ -6,18 +6,6 @@ use borrow.Author.Needs.{needs}
 use Rattle.position.proofs.light_of_code_in.Statement.{statement}
 use Rattle.position.proofs.light_of_code_in.Tie as tie
 
-read-code-requires : tie.Need-read-code-requires
-read-code-requires c κs = search needs
-
-sub-entry-in : tie.Need-sub-entry-in
-sub-entry-in c = search needs
-
-mul-entry-in : tie.Need-mul-entry-in
-mul-entry-in c = search needs
-
-entry-in-requires : tie.Need-entry-in-requires
-entry-in-requires c κs = search needs
-
 returns : tie.Need-returns
 returns c =
     c .entry-in .ensures
@@ -25,4 +13,4 @@ returns c =
 
 pub light-of-code-in-spec : {M : Type 1} → statement M
 light-of-code-in-spec =
-    tie.close (tie.spec read-code-requires sub-entry-in mul-entry-in entry-in-requires returns)
+    tie.close (tie.spec (λ c κs. search needs) (λ c. search needs) (λ c. search needs) (λ c κs. search needs) returns)

@@ -5,15 +5,10 @@ use Rattle.position.specs.Position.{positionOf}
 use Rattle.position.proofs.position_of.Statement.{statement}
 use Rattle.position.proofs.position_of.Tie as tie
 
-light-table-requires : tie.Need-light-table-requires
-light-table-requires c κs = search needs
-
-search-position-requires : tie.Need-search-position-requires
-search-position-requires c κs = search needs
-
 returns : tie.Need-returns
 unfolding positionOf lastPosition
 returns c = c .search-position .ensures
 
 pub position-of-spec : {M : Type 1} → statement M
-position-of-spec = tie.close (tie.spec light-table-requires search-position-requires returns)
+position-of-spec =
+    tie.close (tie.spec (λ c κs. search needs) (λ c κs. search needs) returns)
