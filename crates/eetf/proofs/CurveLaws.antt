@@ -13,17 +13,24 @@ use Rattle.position.specs.Position.{lightAtIn, lightAt, positionOf}
 use Rattle.position.proofs.LightLaws.{light-grows}
 use Rattle.position.proofs.PositionLaws.{position-is}
 use Rattle.position.proofs.PeakLaws.{thousand-position, peak-past, peak-apart}
-use Rattle.eetf.specs.Curve.{peakPositionRead, spline, kneeCurve, bentLight}
+use Rattle.eetf.specs.Curve.{peakPositionRead, spline, kneeCurve, bentLightIn, bentLight}
 use Rattle.eetf.proofs.SplineLaws.{curve, curve-le-top, curve-le-self, curve-grows, knee-curve-below, knee-curve-above, knee-curve-light}
 
 -- ---- the peak
+module _ (P : ℕ → ℕ) (L w M1 m : ℕ) where
+  pub unbent-in : L ≤ 1000 → bentLightIn P L w M1 m ≡ min M1 thousand
+  unbent-in h = rw (le-leb L 1000 h)
+
+  pub bent-in : 1000 < L → bentLightIn P L w M1 m ≡ kneeCurve P (positionOf thousand) w M1 m
+  bent-in h = rw (lt-leb L 1000 h)
+
 pub unbent : (L M1 m : ℕ) → L ≤ 1000 → bentLight L M1 m ≡ min M1 thousand
 unfolding bentLight
-unbent L M1 m h = rw (le-leb L 1000 h)
+unbent L M1 m h = unbent-in lightEntry L (positionOf (L * units)) M1 m h
 
 pub bent-by-curve : (L M1 m : ℕ) → 1000 < L → bentLight L M1 m ≡ kneeCurve lightEntry (positionOf thousand) (positionOf (L * units)) M1 m
 unfolding bentLight
-bent-by-curve L M1 m h = rw (lt-leb L 1000 h)
+bent-by-curve L M1 m h = bent-in lightEntry L (positionOf (L * units)) M1 m h
 
 -- the position of a peak above 1,000 cd/m2 is read as it is
 pub peak-position-read : (L : ℕ) → 1000 < L → peakPositionRead (positionOf (L * units)) ≡ positionOf (L * units)
@@ -51,6 +58,18 @@ on-light-table l L w M1 m h e f =
     ap (λ x. kneeCurve (λ k. getD x (min k 3504) 0) (positionOf thousand) (peakPositionRead w) M1 m) e
     ∙ ap (λ x. kneeCurve lightEntry (positionOf thousand) x M1 m) (ap (λ x. peakPositionRead x) f ∙ peak-position-read L h)
     ∙ sym (bent-by-curve L M1 m h)
+
+-- and under any peak
+pub bent-on-light-table : (l : List ℕ) (L w M1 m : ℕ) → l ≡ lightTable → w ≡ positionOf (L * units) →
+    bentLightIn (λ k. getD l (min k 3504) 0) L (peakPositionRead w) M1 m ≡ bentLight L M1 m
+bent-on-light-table l L w M1 m e f = go (decLe L 1000)
+  where
+    P : ℕ → ℕ
+    P k = getD l (min k 3504) 0
+
+    go : Dec (L ≤ 1000) → bentLightIn (λ k. getD l (min k 3504) 0) L (peakPositionRead w) M1 m ≡ bentLight L M1 m
+    go (yes h) = unbent-in P L (peakPositionRead w) M1 m h ∙ sym (unbent L M1 m h)
+    go (no h) = bent-in P L (peakPositionRead w) M1 m (lt-of-not-le h) ∙ on-light-table l L w M1 m (lt-of-not-le h) e f
 
 -- ---- where M1 is the light at m: under a peak above 1,000 cd/m2 M2 is the light at the curve's position
 abbrev pub bentPosition : ℕ → ℕ → ℕ
