@@ -5,10 +5,15 @@ use mathlib.Core.Bool.{true}
 use Prim.Native.Nat.{ℕ, _≤_, _<_}
 use native.Mathlib.Nat.{lt-irrefl}
 use native.Mathlib.Omega.{arith}
-use Rattle.laws.proofs.LargestLaws.{Found, found, passes-le, grows}
+use Rattle.laws.proofs.LargestLaws.{Falling, Found, found, passes-le, grows}
 use Rattle.hlg_steps.specs.StepTable.{step}
+use Rattle.hlg_steps.proofs.StepLaws.{steps-grow}
 use Rattle.hlg.specs.Code.{luminance, reaches, hlgCode}
-use Rattle.hlg.proofs.ReachLaws.{Reached, reached, reaching, brighter, brighter-grey}
+use Rattle.hlg.proofs.ReachLaws.{Reached, reached, reaching, missed-above, brighter, brighter-grey}
+
+-- steps grow, so a code that is missed leaves all above it
+pub code-falls : (Y R : ℕ) → Falling (λ d. reaches (step d) Y R)
+code-falls Y R = record { on = λ c d h e. missed-above (step c) (step d) Y R (steps-grow c d h) e }
 
 code-found : (Y R : ℕ) → Found (λ d. reaches (step d) Y R) 64 955 (hlgCode Y R)
 unfolding hlgCode

@@ -8,8 +8,8 @@ use native.Mathlib.Omega.{arith}
 use lib.Dec.{lit<, lit≤}
 use Rattle.laws.proofs.Polynomial.{#_, _⊕_, _⊗_, _↑_, _≐_, ring}
 use Rattle.laws.proofs.Certificate.{_⊑_by_, _⊢_≼_, cert}
-use Rattle.hlg.specs.Root.{LowRoot, HighRoot, IsRoot}
-use Rattle.hlg.proofs.NewtonLaws.{fives, whole, sixth, spread, gain, net, Raised}
+use Rattle.hlg.specs.Root.{fives, LowRoot, HighRoot, IsRoot}
+use Rattle.hlg.proofs.NewtonLaws.{whole, sixth, spread, gain, net, Raised}
 use Rattle.hlg.proofs.NewtonLaws.{power-above, unit-small, power-below, newton, step-below, step-above, mean-near}
 
 -- ---- v⁶ n for a root g and a luminance y, each scaled: a b is 2⁴²

@@ -8,11 +8,9 @@ use native.Mathlib.Omega.{arith}
 use lib.Dec.{lit<, lit≤}
 use Rattle.laws.proofs.Polynomial.{#_, _⊕_, _⊗_, _↑_, nxt, _≼_, ring}
 use Rattle.laws.proofs.Certificate.{_⊑_by_, _⊢_≼_, cert}
+use Rattle.hlg.specs.Root.{fives}
 
--- 5¹¹; 2⁷⁹ / 5¹¹ and 2³⁸ 5¹¹ / 6, rounded down
-abbrev pub fives : ℕ
-fives = 48828125
-
+-- 2⁷⁹ / 5¹¹ and 2³⁸ 5¹¹ / 6, rounded down
 abbrev pub whole : ℕ
 whole = 12379400392853802
 

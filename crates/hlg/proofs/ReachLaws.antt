@@ -1,6 +1,6 @@
 -- Laws of `reaches`: what it says as an inequality, its growth with the step and the component, and greys; from the order of powers.
 use mathlib.Core.Path.{_≡_, refl, sym, _∙_, ap, ap₂}
-use mathlib.Core.Bool.{Bool, true, false, _&&_}
+use mathlib.Core.Bool.{Bool, true, false, _&&_, true≢false, and-eq-true-iff}
 use Prim.Native.Nat.{ℕ, _*_, _^_, _≤_, _<_}
 use native.Mathlib.Nat.{le-trans, lt-of-lt-of-le, mul-le-mul-left, mul-le-mul-right, le-of-mul-le-mul-right, pow-le-pow-left, pow-suc}
 use native.Mathlib.Omega.{arith}
@@ -14,16 +14,9 @@ pub record Reached (T Y R : ℕ) : Type 0 where
   pub some : 0 < R
   pub power : T ^ 6 * thousand ^ 5 * Y ≤ 2 ^ 240 * 10000 * R ^ 6
 
-clash : {b : Bool} → b ≡ true → b ≡ false → ⊥
-clash p q = let z : true ≡ false = sym p ∙ q in let w : _≡_ {A = ℕ} 0 1 = cc in omega arith
-
-both : (a b : Bool) → (a && b) ≡ true → (a ≡ true) × (b ≡ true)
-both true b e = (refl, e)
-both false b e = absurd (clash e refl)
-
 pub reached : (T Y R : ℕ) → reaches T Y R ≡ true → Reached T Y R
 unfolding reaches
-reached T Y R e = let w = both _ _ e in record { some = ltb-true 0 R (w .0); power = leb-true _ _ (w .1) }
+reached T Y R e = let w = and-eq-true-iff _ _ .0 e in record { some = ltb-true 0 R (w .0); power = leb-true _ _ (w .1) }
 
 pub reaching : (T Y R : ℕ) → Reached T Y R → reaches T Y R ≡ true
 unfolding reaches
@@ -48,7 +41,7 @@ missed-above S T Y R h e = go (reaches T Y R) refl
   where
     go : (b : Bool) → reaches T Y R ≡ b → reaches T Y R ≡ false
     go false f = f
-    go true f = absurd (clash (reaching S Y R (lower h (reached T Y R f))) e)
+    go true f = absurd (true≢false (sym (reaching S Y R (lower h (reached T Y R f))) ∙ e))
 
 -- ---- the component: a brighter one in the same luminance reaches what a darker one does
 pub brighter : {T Y R R′ : ℕ} → R ≤ R′ → Reached T Y R → Reached T Y R′

@@ -10,11 +10,11 @@ use native.Mathlib.Omega.{arith}
 use Rattle.laws.proofs.LargestLaws.{found-is}
 use Rattle.quantity.specs.Units.{units, thousand}
 use Rattle.hlg_steps.specs.StepTable.{stepTable, step}
-use Rattle.hlg_steps.proofs.StepLaws.{steps-grow, step-pos}
+use Rattle.hlg_steps.proofs.StepLaws.{step-pos}
 use Rattle.hlg.specs.Code.{reaches, hlgCode}
-use Rattle.hlg.proofs.ReachLaws.{missed-above}
 use Rattle.hlg.specs.Root.{LowRoot, HighRoot}
 use Rattle.hlg.specs.Settled.{stepIn, Settled}
+use Rattle.hlg.proofs.CodeLaws.{code-falls}
 use Rattle.hlg.proofs.RootLaws.{reached-by-root, missed-by-root}
 
 -- ---- a search
@@ -61,7 +61,7 @@ module _ (y r g s u d : ℕ) (low : LowRoot g y) (high : HighRoot (g + 2) y) (un
         from = h .from;
         to = omega (arith, h .to);
         passes = passes some (decLe d 64);
-        last = λ k l m. missed-above (step (d + 1)) (step k) y r (steps-grow (d + 1) k (omega arith)) (missed-at (h .missed (omega arith)));
+        last = λ k l m. code-falls y r .on (d + 1) k (omega arith) (missed-at (h .missed (omega arith)));
       })
 
   -- a component that reaches a step has light

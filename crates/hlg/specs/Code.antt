@@ -1,4 +1,4 @@
--- The HLG code of a mapped component (scope, HLG code): inverse OOTF with gamma 1.2, then the OETF. Light in units, steps in 1/2^40.
+-- The HLG code of a mapped component (scope, HLG code): BT.2100's inverse HLG OOTF (gamma 1.2), then its OETF. Light in units, steps in 1/2^40.
 use mathlib.Core.Path.{_≡_}
 use mathlib.Core.Bool.{Bool, _&&_}
 use Prim.Native.Nat.{ℕ, _+_, _*_, _^_}

@@ -37,13 +37,13 @@ fn search_position(table: &[u64; 3505], l: u64, from: u64, span: u64) -> u64
         return from;
     }
     let above = span / 2;
-    let step = span - above;
-    let middle = from + step;
+    let half = span - above;
+    let middle = from + half;
     let light = light_in(table, Position(middle));
     if light.0 <= l {
         search_position(table, l, middle, above)
     } else {
-        search_position(table, l, from, step - 1)
+        search_position(table, l, from, half - 1)
     }
 }
 

@@ -1,47 +1,41 @@
--- `hlg::hlg_codes` meets its contract: components as read stay in the bounds of the search, which finds the code of each.
+-- `hlg::hlg_codes` meets its contract: luminance and components as read stay in the bounds of the search, which finds the code of each.
 use mathlib.Core.Path.{_≡_, _∙_, ap₂}
 use Prim.Native.Nat.{ℕ}
 use native.Mathlib.Omega.{arith}
 use lib.Dec.{lit<}
 use borrow.Author.Needs.{needs}
 use Rattle.laws.specs.Largest.{largest}
-use Rattle.quantity.specs.Units.{thousand}
+use Rattle.quantity.specs.Units.{units, thousand}
 use Rattle.hlg_steps.specs.StepTable.{step}
-use Rattle.hlg.specs.Code.{luminance, reaches, hlgCode}
+use Rattle.hlg.specs.Code.{reaches, hlgCode}
 use Rattle.hlg.proofs.hlg_codes.Statement.{statement}
 use Rattle.hlg.proofs.hlg_codes.Tie as tie
 
 search-code-requires : tie.Need-search-code-requires
-unfolding thousand
+unfolding units thousand
 search-code-requires c κs = (c .before .step-table .ensures, omega arith, omega arith, lit< tt)
 
 search-code-requires-2 : tie.Need-search-code-requires-2
-unfolding thousand
+unfolding units thousand
 search-code-requires-2 c κs = (c .before .before .before .step-table .ensures, omega arith, omega arith, lit< tt)
 
 search-code-requires-3 : tie.Need-search-code-requires-3
-unfolding thousand
+unfolding units thousand
 search-code-requires-3 c κs = (c .before .before .before .before .before .step-table .ensures, omega arith, omega arith, lit< tt)
 
 -- what the search finds, of a luminance and a component that are those of the definition
-coded : (d y r Y R : ℕ) → d ≡ largest (λ e. reaches (step e) y r) 64 955 → y ≡ Y → r ≡ R → d ≡ hlgCode Y R
+coded : {d y r Y R : ℕ} → d ≡ largest (λ e. reaches (step e) y r) 64 955 → y ≡ Y → r ≡ R → d ≡ hlgCode Y R
 unfolding hlgCode
-coded d y r Y R e f g = e ∙ ap₂ hlgCode f g
-
-same : {r g b R G B : ℕ} → r ≡ R → g ≡ G → b ≡ B → luminance r g b ≡ luminance R G B
-same e f h = cc
+coded e f g = e ∙ ap₂ hlgCode f g
 
 returns : tie.Need-returns
 returns c =
-    let weighed = c .before .before .before .before .before .before .before in
-    let r = weighed .before .before .before .read-component in
-    let g = weighed .before .before .read-component2 in
-    let b = weighed .before .read-component3 in
-    let y = weighed .weigh .ensures ∙ same (r .ensures) (g .ensures) (b .ensures) in
+    let read = c .before .before .before .before .before .before .before in
+    let y = read .before .before .before .luminance-of .ensures in
     record {
-      red = coded _ _ _ _ _ (c .before .before .before .before .search-code .ensures) y (r .ensures);
-      green = coded _ _ _ _ _ (c .before .before .search-code2 .ensures) y (g .ensures);
-      blue = coded _ _ _ _ _ (c .search-code3 .ensures) y (b .ensures);
+      red = coded (c .before .before .before .before .search-code .ensures) y (read .before .before .read-component .ensures);
+      green = coded (c .before .before .search-code2 .ensures) y (read .before .read-component2 .ensures);
+      blue = coded (c .search-code3 .ensures) y (read .read-component3 .ensures);
     }
 
 pub hlg-codes-spec : {M : Type 1} → statement M
