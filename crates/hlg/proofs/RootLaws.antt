@@ -6,7 +6,6 @@ use native.Mathlib.Nat.{le-trans, le-of-eq, lt-of-le-of-lt, lt-of-lt-of-le, not-
 use native.Mathlib.Nat.{mul-le-mul-left, mul-lt-mul-of-pos-left, le-of-mul-le-mul-right, lt-of-mul-lt-mul-right}
 use native.Mathlib.Omega.{arith}
 use lib.Dec.{lit<, lit≤}
-use Rattle.laws.proofs.Polynomial.{#_, _⊗_, _↑_, _≐_, ring}
 use Rattle.laws.proofs.PowerLaws.{of-product}
 use Rattle.hlg.specs.Code.{reaches}
 use Rattle.hlg.specs.Root.{LowRoot, HighRoot}

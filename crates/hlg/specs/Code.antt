@@ -1,7 +1,7 @@
 -- The HLG code of a mapped component (scope, HLG code): BT.2100's inverse HLG OOTF (gamma 1.2), then its OETF. Light in units, steps in 1/2^40.
 use mathlib.Core.Path.{_≡_}
 use mathlib.Core.Bool.{Bool, _&&_}
-use Prim.Native.Nat.{ℕ, _+_, _*_, _^_}
+use Prim.Native.Nat.{ℕ, _*_, _^_}
 use lib.Dec.{leb, ltb}
 use Rattle.laws.specs.Largest.{largest}
 use Rattle.quantity.specs.Units.{thousand}

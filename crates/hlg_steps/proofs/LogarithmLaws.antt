@@ -2,12 +2,13 @@
 use mathlib.Core.Path.{_≡_, ap, _∙_}
 use mathlib.Core.Logic.{inl, inr}
 use Prim.Native.Nat.{ℕ, _+_, _-_, _*_, _≤_, _<_}
-use native.Mathlib.Nat.{le-trans, le-of-eq, not-le-of-lt, mul-le-mul-right, le-of-mul-le-mul-right, mul-pos, mul-sub, mul-comm}
+use native.Mathlib.Nat.{le-trans, le-of-eq, not-le-of-lt, mul-le-mul-right, le-of-mul-le-mul-right, mul-pos}
 use native.Mathlib.Decide.{decLe}
 use native.Mathlib.Omega.{arith}
 use lib.Dec.{lit<}
 use Rattle.laws.specs.Fraction.{Fraction, _≼_}
 use Rattle.laws.specs.Side.{low, high}
+use Rattle.laws.proofs.DivisionLaws.{sub-mul}
 use Rattle.laws.proofs.FractionLaws.{cross-trans}
 use Rattle.hlg_steps.specs.Exponential.{sumNum, sumDen, Exponential}
 use Rattle.hlg_steps.specs.Signal.{innerNum, innerDen, aboveC, belowC, slope, Logarithm}
@@ -18,9 +19,6 @@ use Rattle.hlg_steps.proofs.SignalTests.{slope-pos}
 inner-pos : (E : Fraction) → 0 < innerDen E
 unfolding innerDen
 inner-pos E = mul-pos (E .pos) (lit< tt)
-
-sub-mul : (m n k : ℕ) → (m - n) * k ≡ m * k - n * k
-sub-mul m n k = mul-comm (m - n) k ∙ mul-sub k m n ∙ omega arith
 
 inner-grows : (E F : Fraction) → E ≼ F → innerNum E * innerDen F ≤ innerNum F * innerDen E
 unfolding innerNum innerDen

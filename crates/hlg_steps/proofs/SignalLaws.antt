@@ -1,4 +1,5 @@
 -- Lower and upper fractions of the HLG signal: those of more light and of less, those further out, and that no lower one exceeds an upper one.
+use mathlib.Core.Path.{sym, subst₂}
 use mathlib.Core.Logic.{inl, inr}
 use Prim.Native.Nat.{ℕ, _*_, _≤_, _<_}
 use native.Mathlib.Nat.{le-refl, lt-of-not-le, not-le-of-lt, mul-le-mul, mul-le-mul-left, mul-le-mul-right, mul-lt-mul-of-pos-right, le-of-mul-le-mul-right, lt-of-mul-lt-mul-right, mul-pos, zero-lt-suc}
@@ -7,6 +8,7 @@ use native.Mathlib.Omega.{arith}
 use lib.Dec.{lit≤}
 use Rattle.laws.specs.Fraction.{Fraction, over, whole, _≼_, _·_}
 use Rattle.laws.specs.Side.{low, high, Bounds}
+use Rattle.laws.proofs.PowerLaws.{second, base-le}
 use Rattle.laws.proofs.FractionLaws.{cross-trans, ≼-trans}
 use Rattle.hlg_steps.specs.Exponential.{sumNum, sumDen, Exponential}
 use Rattle.hlg_steps.specs.Signal.{innerNum, innerDen, belowC, slope, Logarithm, HlgSignal}
@@ -45,11 +47,7 @@ half-below E g h k =
 
 -- ---- the signal
 squares-le : (x y : ℕ) → x * x ≤ y * y → x ≤ y
-squares-le x y h = go (decLe x y)
-  where
-    go : Dec (x ≤ y) → x ≤ y
-    go (yes r) = r
-    go (no r) = let l : y < x = lt-of-not-le r in absurd (not-le-of-lt (omega (arith, mul-le-mul l l)) h)
+squares-le x y h = base-le 2 (omega arith) (subst₂ _≤_ (sym (second x)) (sym (second y)) h)
 
 -- up to 1/12 a lower fraction is at most 1/2, above it an upper one at least 1/2
 half-root : (E g : Fraction) → 12 * E .num ≤ E .den → Bounds low (g · g) (whole 3 · E) → 2 * g .num ≤ g .den

@@ -1,9 +1,12 @@
--- Laws of division rounded down and rounded up.
-use mathlib.Core.Path.{_≡_, sym, subst, subst₂}
+-- Laws of differences cut off at 0, and of division rounded down and rounded up.
+use mathlib.Core.Path.{_≡_, sym, _∙_, subst, subst₂}
 use mathlib.Core.Logic.{_↔_}
-use Prim.Native.Nat.{ℕ, zero, suc, pred, _+_, _*_, _/_, _≤_, _<_}
-use native.Mathlib.Nat.{le-refl, le-trans, zero-lt-suc, div-zero, div-add-mod, div-mul-le-self, le-div-iff-mul-le, mod-lt, div-eq-of-lt-le, lt-div-mul-add, suc-mul}
+use Prim.Native.Nat.{ℕ, zero, suc, pred, _+_, _-_, _*_, _/_, _≤_, _<_}
+use native.Mathlib.Nat.{le-refl, le-trans, zero-lt-suc, mul-comm, mul-sub, div-zero, div-add-mod, div-mul-le-self, le-div-iff-mul-le, mod-lt, div-eq-of-lt-le, lt-div-mul-add, suc-mul}
 use native.Mathlib.Omega.{arith}
+
+pub sub-mul : (m n k : ℕ) → (m - n) * k ≡ m * k - n * k
+sub-mul m n k = mul-comm (m - n) k ∙ mul-sub k m n ∙ omega arith
 
 pub floor-le : (a b : ℕ) → a / b * b ≤ a
 floor-le a b = omega (arith, div-add-mod a b)

@@ -1,6 +1,6 @@
 -- `eetf::highlight_curve` meets its contract: the peak is read at its range's ends, and the table that it lends is the light table.
 use mathlib.Core.Path.{_≡_, ap, _∙_}
-use Prim.Native.Nat.{ℕ, min, _*_}
+use Prim.Native.Nat.{ℕ, min}
 use native.Mathlib.Omega.{arith}
 use borrow.Author.Needs.{needs}
 use Rattle.quantity.specs.Units.{units, tenThousand, lastPosition}

@@ -40,16 +40,16 @@ module _ (t : ℕ) where
       let entry = c .step-in .ensures ∙ step-read _ _ (c .before .before .pre .1 .0) in
       (subst (λ (x : ℕ). x < 2 ^ 41) (sym entry) (step-fits _), omega arith, omega arith)
 
-  upper : lts.Need-returns-2 calls here own.Post
-  upper c =
+  returns-2 : lts.Need-returns-2 calls here own.Post
+  returns-2 c =
       let s = c .before .before .before .before .before in
       let a = s .args in
       let entry = c .before .before .before .step-in .ensures ∙ step-read _ _ (s .pre .1 .0) in
       upper-half (test (a .y) (a .r .0)) (a .from) (a .span)
       (tested _ _ (a .y) (a .r .0) entry (c .before .before .reached .ensures) (c .before .if2 .taken)) (c .search-code .ensures)
 
-  lower : lts.Need-returns-3 calls here own.Post
-  lower c =
+  returns-3 : lts.Need-returns-3 calls here own.Post
+  returns-3 c =
       let s = c .before .before .before .before .before in
       let a = s .args in
       let entry = c .before .before .before .step-in .ensures ∙ step-read _ _ (s .pre .1 .0) in
@@ -67,5 +67,5 @@ pub +search-code-spec : {M : Type 1} → statement M
     (λ c κs. (omega arith, (c .before .before .before .before .pre .1 .0, omega arith, omega arith, omega arith)))
     (λ c. omega arith)
     (λ c κs. (omega arith, (c .before .before .before .before .pre .1 .0, omega arith, omega arith, omega arith)))
-    (upper t)
-    (lower t)
+    (returns-2 t)
+    (returns-3 t)

@@ -4,6 +4,9 @@ use Rattle.quantity.specs.Units.{units, thousand}
 use Rattle.hlg.proofs.read_component.Statement.{statement}
 use Rattle.hlg.proofs.read_component.Tie as tie
 
-pub read-component-spec : {M : Type 1} → statement M
+returns : tie.Need-returns
 unfolding units thousand
-read-component-spec = tie.close (tie.spec (λ c κs. search needs) (λ c. search needs))
+returns c = search needs
+
+pub read-component-spec : {M : Type 1} → statement M
+read-component-spec = tie.close (tie.spec (λ c κs. search needs) returns)

@@ -34,15 +34,15 @@ module _ (t : ℕ) where
   abbrev calls : lts.Claims
   calls = (light-in.Asked, light-in.Learnt, and 1 kinds.ps (falls 1 kinds.ps _<_ span t) own.Pre, own.Post)
 
-  upper : lts.Need-returns-2 calls here own.Post
-  upper c =
+  returns-2 : lts.Need-returns-2 calls here own.Post
+  returns-2 c =
       let s = c .before .before .before .before .before in
       let a = s .args in
       let light = c .before .before .before .light-in .ensures ∙ lent-light (a .table .now) _ (s .pre .1 .0) in
       upper-half (reaches (a .l)) (a .from) (a .span) (le-leb _ (a .l) (omega arith)) (c .search-position .ensures)
 
-  lower : lts.Need-returns-3 calls here own.Post
-  lower c =
+  returns-3 : lts.Need-returns-3 calls here own.Post
+  returns-3 c =
       let s = c .before .before .before .before .before in
       let a = s .args in
       let light = c .before .before .before .light-in .ensures ∙ lent-light (a .table .now) _ (s .pre .1 .0) in
@@ -58,5 +58,5 @@ pub +search-position-spec : {M : Type 1} → statement M
     (λ c κs. (omega arith, (c .before .before .before .before .pre .1 .0, omega arith)))
     (λ c. omega arith)
     (λ c κs. (omega arith, (c .before .before .before .before .pre .1 .0, omega arith)))
-    (upper t)
-    (lower t)
+    (returns-2 t)
+    (returns-3 t)
