@@ -3,9 +3,11 @@ use mathlib.Core.Path.{_≡_, refl, sym, _∙_, ap, ap₂, subst}
 use mathlib.Core.Logic.{_⊎_, inl, inr}
 use mathlib.Core.Bool.{Bool, true, false, true≢false}
 use Prim.Native.Nat.{ℕ, zero, suc, _+_, _-_, _/_, _≤_, _<_}
-use native.Mathlib.Nat.{add-zero, add-suc, le-refl, le-antisymm}
+use native.Mathlib.Nat.{add-zero, add-suc, le-refl, le-antisymm, lt-of-lt-of-le}
 use native.Mathlib.Decide.{decLe}
 use native.Mathlib.Omega.{arith}
+use lib.Dec.{leb}
+use borrow.Author.Tests.{leb-false, lt-leb}
 use Rattle.laws.specs.Largest.{choose, largest}
 
 here : (f : ℕ → Bool) (lo m : ℕ) → f (lo + m) ≡ true → largest f lo m ≡ lo + m
@@ -87,6 +89,10 @@ grows f g lo n imp = go (found f lo n .passes)
 -- ---- halving, for any test that fails from where it fails once
 pub record Falling (f : ℕ → Bool) : Type 0 where
   pub on : (j k : ℕ) → j ≤ k → f j ≡ false → f k ≡ false
+
+-- as the test that what grows is at most l
+pub at-most-falls : (g : ℕ → ℕ) (l : ℕ) → ((j k : ℕ) → j ≤ k → g j ≤ g k) → Falling (λ k. leb (g k) l)
+at-most-falls g l grows = record { on = λ j k h e. lt-leb (g k) l (lt-of-lt-of-le (leb-false (g j) l e) (grows j k h)) }
 
 -- a search over a span of 0 stays where it is; else the middle decides one half: where it passes, what is found from it on, and where it
 -- fails, what is found below it

@@ -2,13 +2,12 @@
 use mathlib.Core.Path.{_∙_}
 use mathlib.Core.Bool.{Bool}
 use Prim.Native.Nat.{ℕ, _<_}
-use native.Mathlib.Nat.{lt-of-lt-of-le}
 use native.Mathlib.Omega.{arith}
 use lib.Dec.{leb}
-use borrow.Author.Tests.{leb-false, le-leb, lt-leb}
+use borrow.Author.Tests.{le-leb, lt-leb}
 use borrow.Fn.Kinds.{In}
 use borrow.Fn.PlainCycle.{Measures, is, falls, and}
-use Rattle.laws.proofs.LargestLaws.{Falling, no-span, upper-half, lower-half}
+use Rattle.laws.proofs.LargestLaws.{at-most-falls, no-span, upper-half, lower-half}
 use Rattle.position.specs.Position.{lightAt}
 use Rattle.position.proofs.LightLaws.{light-grows, lent-light}
 use Rattle.position.proofs.light_in.Reads as light-in
@@ -20,9 +19,6 @@ use Rattle.position.proofs.+search_position.Tie.{close}
 
 abbrev reaches : ℕ → ℕ → Bool
 reaches l q = leb (lightAt q) l
-
-falling : (l : ℕ) → Falling (reaches l)
-falling l = record { on = λ j k h e. lt-leb (lightAt k) l (lt-of-lt-of-le (leb-false (lightAt j) l e) (light-grows j k h)) }
 
 abbrev span : Measures 1 kinds.ps ℕ
 span κs a = a .1 .1 .1 .0
@@ -46,7 +42,7 @@ module _ (t : ℕ) where
       let s = c .before .before .before .before .before in
       let a = s .args in
       let light = c .before .before .before .light-in .ensures ∙ lent-light (a .table .now) _ (s .pre .1 .0) in
-      lower-half (reaches (a .l)) (a .from) (a .span) (falling (a .l)) (omega arith) (lt-leb _ (a .l) (omega arith)) (c .search-position2 .ensures)
+      lower-half (reaches (a .l)) (a .from) (a .span) (at-most-falls lightAt (a .l) light-grows) (omega arith) (lt-leb _ (a .l) (omega arith)) (c .search-position2 .ensures)
 
 pub +search-position-spec : {M : Type 1} → statement M
 +search-position-spec =
