@@ -5,10 +5,10 @@ use Prim.Native.Nat.{ℕ, min, _+_, _*_, _≤_, _<_}
 use native.Mathlib.Nat.{le-trans, lt-of-not-le}
 use native.Mathlib.Decide.{decLe}
 use native.Mathlib.Omega.{arith}
-use lib.ListN.{getD}
 use borrow.Author.Tests.{le-leb, lt-leb}
 use Rattle.quantity.specs.Units.{units, thousand, lastPosition}
 use Rattle.pq.specs.LightTable.{lightTable, lightEntry}
+use Rattle.pq.specs.Pq.{entryIn}
 use Rattle.position.specs.Position.{lightAtIn, lightAt, positionOf}
 use Rattle.position.proofs.LightLaws.{light-grows}
 use Rattle.position.proofs.PositionLaws.{position-is}
@@ -52,24 +52,21 @@ from-knee P w M1 m end at s e a h f =
 
 -- ---- on a lent table that is the light table, at the position of a peak above 1,000 cd/m2
 pub on-light-table : (l : List ℕ) (L w M1 m : ℕ) → 1000 < L → l ≡ lightTable → w ≡ positionOf (L * units) →
-    kneeCurve (λ k. getD l (min k 3504) 0) (positionOf thousand) (peakPositionRead w) M1 m ≡ bentLight L M1 m
+    kneeCurve (entryIn l) (positionOf thousand) (peakPositionRead w) M1 m ≡ bentLight L M1 m
 unfolding lightEntry
 on-light-table l L w M1 m h e f =
-    ap (λ x. kneeCurve (λ k. getD x (min k 3504) 0) (positionOf thousand) (peakPositionRead w) M1 m) e
+    ap (λ x. kneeCurve (entryIn x) (positionOf thousand) (peakPositionRead w) M1 m) e
     ∙ ap (λ x. kneeCurve lightEntry (positionOf thousand) x M1 m) (ap (λ x. peakPositionRead x) f ∙ peak-position-read L h)
     ∙ sym (bent-by-curve L M1 m h)
 
 -- and under any peak
 pub bent-on-light-table : (l : List ℕ) (L w M1 m : ℕ) → l ≡ lightTable → w ≡ positionOf (L * units) →
-    bentLightIn (λ k. getD l (min k 3504) 0) L (peakPositionRead w) M1 m ≡ bentLight L M1 m
+    bentLightIn (entryIn l) L (peakPositionRead w) M1 m ≡ bentLight L M1 m
 bent-on-light-table l L w M1 m e f = go (decLe L 1000)
   where
-    P : ℕ → ℕ
-    P k = getD l (min k 3504) 0
-
-    go : Dec (L ≤ 1000) → bentLightIn (λ k. getD l (min k 3504) 0) L (peakPositionRead w) M1 m ≡ bentLight L M1 m
-    go (yes h) = unbent-in P L (peakPositionRead w) M1 m h ∙ sym (unbent L M1 m h)
-    go (no h) = bent-in P L (peakPositionRead w) M1 m (lt-of-not-le h) ∙ on-light-table l L w M1 m (lt-of-not-le h) e f
+    go : Dec (L ≤ 1000) → bentLightIn (entryIn l) L (peakPositionRead w) M1 m ≡ bentLight L M1 m
+    go (yes h) = unbent-in (entryIn l) L (peakPositionRead w) M1 m h ∙ sym (unbent L M1 m h)
+    go (no h) = bent-in (entryIn l) L (peakPositionRead w) M1 m (lt-of-not-le h) ∙ on-light-table l L w M1 m (lt-of-not-le h) e f
 
 -- ---- where M1 is the light at m: under a peak above 1,000 cd/m2 M2 is the light at the curve's position
 abbrev pub bentPosition : ℕ → ℕ → ℕ

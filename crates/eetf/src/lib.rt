@@ -1,8 +1,8 @@
 // The highlight curve (maxRGB EETF) and the components it maps. Lights in units of 1/16,777,216 cd/m2, positions in 1/897,024 of the PQ signal.
 ghost use mathlib.Core.Path.{_≡_};
-ghost use Prim.Native.Nat.{ℕ, min, _+_, _*_, _≤_, _<_};
-ghost use lib.ListN.{getD};
+ghost use Prim.Native.Nat.{min, _+_, _*_, _≤_, _<_};
 ghost use Rattle.quantity.specs.Units.{thousand, tenThousand, lastPosition};
+ghost use Rattle.pq.specs.Pq.{entryIn};
 ghost use Rattle.position.specs.Position.{positionOf};
 ghost use Rattle.eetf.specs.Curve.{peakRead, peakPositionRead, spline, kneeCurve, bentLightIn, bentLight, mappedLight};
 use position::fill_lights;
@@ -39,7 +39,7 @@ pub fn bent_light(
     m1: DisplayLight,
     m: Position,
 ) -> DisplayLight
-    ensures { λ r. ⌜ r .0 ≡ bentLightIn (λ (k : ℕ). getD (now (lights .entry)) (min k 3504) 0) peak (peakPositionRead (w .0)) (min (m1 .0) tenThousand) (min (m .0) lastPosition) ⌝ }
+    ensures { λ r. ⌜ r .0 ≡ bentLightIn (entryIn (now (lights .entry))) peak (peakPositionRead (w .0)) (min (m1 .0) tenThousand) (min (m .0) lastPosition) ⌝ }
 {
     if peak <= 1000 {
         return DisplayLight(smaller(m1.0, THOUSAND));
@@ -50,7 +50,7 @@ pub fn bent_light(
 // M2 under a peak above 1,000 cd/m2 whose position is w, on a lent light table: M1 below the knee, then the light at the spline. Above the
 // peak the curve stays at its end.
 pub fn knee_curve(lights: &[u64; 3505], w: Position, m1: DisplayLight, m: Position) -> DisplayLight
-    ensures { λ r. ⌜ r .0 ≡ kneeCurve (λ (k : ℕ). getD (now (lights .entry)) (min k 3504) 0) (positionOf thousand) (peakPositionRead (w .0)) (min (m1 .0) tenThousand) (min (m .0) lastPosition) ⌝ }
+    ensures { λ r. ⌜ r .0 ≡ kneeCurve (entryIn (now (lights .entry))) (positionOf thousand) (peakPositionRead (w .0)) (min (m1 .0) tenThousand) (min (m .0) lastPosition) ⌝ }
 {
     let end = smaller(larger(w.0, LOWEST_PEAK_POSITION), LAST_POSITION);
     let at = smaller(smaller(m.0, LAST_POSITION), end);

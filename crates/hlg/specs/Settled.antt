@@ -1,11 +1,7 @@
 -- What tests on a step table settle, whatever the table holds. No public call cites it.
 use mathlib.Core.List.{List}
-use Prim.Native.Nat.{ℕ, min, _+_, _-_, _≤_, _<_}
-use lib.ListN.{getD}
-
--- the step of code d in a table
-abbrev pub stepIn : List ℕ → ℕ → ℕ
-stepIn ts d = getD ts (min (d - 65) 954) 0
+use Prim.Native.Nat.{ℕ, _+_, _≤_, _<_}
+pub use Rattle.hlg_steps.specs.Steps.{stepIn}
 
 -- d is the last of the codes lo to hi − 1 whose step is at most s, and the step of the next is above u: a scene light from s to u has the code d
 pub record Settled (ts : List ℕ) (s u lo hi d : ℕ) : Type 0 where

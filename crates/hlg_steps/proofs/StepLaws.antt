@@ -10,7 +10,7 @@ use lib.ListN.{length, getD}
 use Rattle.laws.specs.Side.{low, high}
 use Rattle.laws.proofs.ComputedTests.{at-entry, rises}
 use Rattle.hlg_steps.specs.Signal.{HlgSignal}
-use Rattle.hlg_steps.specs.Steps.{scene, thresholdSignal, IsStep}
+use Rattle.hlg_steps.specs.Steps.{stepIn, scene, thresholdSignal, IsStep}
 use Rattle.hlg_steps.specs.StepTable.{stepTable, step}
 use Rattle.hlg_steps.proofs.StepTests.{Passed, stepTest, step-test, steps-pass}
 
@@ -19,9 +19,9 @@ unfolding stepTable
 table-length = refl
 
 -- what is read of the table, or of an array that holds it, at a code's place
-pub step-read : (t : List ℕ) (d : ℕ) → t ≡ stepTable → getD t (min (d - 65) 954) 0 ≡ step d
+pub step-read : (t : List ℕ) (d : ℕ) → t ≡ stepTable → stepIn t d ≡ step d
 unfolding step
-step-read t d h = ap (λ (l : List ℕ). getD l (min (d - 65) 954) 0) h
+step-read t d h = ap (λ (l : List ℕ). stepIn l d) h
 
 -- ---- the rule
 passed-at : (i : ℕ) → i < 955 → Passed (65 + i) (getD stepTable i 0)

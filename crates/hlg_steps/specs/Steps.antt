@@ -1,11 +1,17 @@
 -- The rule of the HLG steps (scope, HLG code: T[d]): the smallest scene light, in 1/2^40, whose HLG signal is at least e = (2d − 129)/1752.
 use mathlib.Core.Logic.{_⊎_}
-use Prim.Native.Nat.{ℕ, _-_, _*_, _^_, _≤_, _<_}
+use mathlib.Core.List.{List}
+use Prim.Native.Nat.{ℕ, min, _-_, _*_, _^_, _≤_, _<_}
 use native.Mathlib.Nat.{zero-lt-suc}
+use lib.ListN.{getD}
 use lib.Pow.{pow-pos}
 use Rattle.laws.specs.Fraction.{Fraction, over}
 use Rattle.laws.specs.Side.{Side, low, high, At}
 use Rattle.hlg_steps.specs.Signal.{Logarithm}
+
+-- the step of code d in any table of as many; a code below 65 or above 1,019 reads the nearer end
+abbrev pub stepIn : List ℕ → ℕ → ℕ
+stepIn t d = getD t (min (d - 65) 954) 0
 
 -- s units of scene light
 abbrev pub scene : ℕ → Fraction

@@ -3,8 +3,7 @@ mod steps; // steps.rt: the constant
 
 ghost use mathlib.Core.Path.{_≡_};
 ghost use Prim.Native.Nat.{max, min, _-_};
-ghost use lib.ListN.{getD};
-ghost use Rattle.hlg_steps.specs.Steps.{IsStep};
+ghost use Rattle.hlg_steps.specs.Steps.{stepIn, IsStep};
 ghost use Rattle.hlg_steps.specs.StepTable.{stepTable, step};
 use quantity::SceneLight;
 
@@ -18,7 +17,7 @@ pub fn step_of(d: u64) -> SceneLight
 
 // The entry of code d in any table.
 pub fn step_in(table: &[u64; 955], d: u64) -> SceneLight
-    ensures { λ r. ⌜ r .0 ≡ getD (now (table .entry)) (min (d - 65) 954) 0 ⌝ }
+    ensures { λ r. ⌜ r .0 ≡ stepIn (now (table .entry)) d ⌝ }
 {
     let i = place_of(d);
     SceneLight(table[i])

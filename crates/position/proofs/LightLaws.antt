@@ -1,13 +1,13 @@
 -- Lights of positions and of codes: over any table of entries that grow, then of the light table itself.
 use mathlib.Core.Path.{_≡_, sym, ap, _∙_}
 use mathlib.Core.List.{List}
-use Prim.Native.Nat.{ℕ, min, _+_, _-_, _*_, _/_, _%_, _≤_, _<_}
+use Prim.Native.Nat.{ℕ, _+_, _-_, _*_, _/_, _%_, _≤_, _<_}
 use native.Mathlib.Nat.{le-trans, mul-le-mul-left, zero-lt-suc, mul-add-div}
 use native.Mathlib.Decide.{decLe}
 use native.Mathlib.Omega.{arith}
-use lib.ListN.{getD}
 use Rattle.quantity.specs.Units.{tenThousand, lastPosition}
 use Rattle.pq.specs.LightTable.{lightTable, lightEntry}
+use Rattle.pq.specs.Pq.{entryIn}
 use Rattle.pq.proofs.EntryLaws.{entries-grow, entry-first, entry-last, entry-past}
 use Rattle.position.specs.Position.{codeRead, codeLightIn, lightAtIn, codeLight, lightAt}
 
@@ -99,10 +99,10 @@ unfolding codeLight
 code-light-grows D E h = entries-grow (4 * (codeRead D - 64)) (4 * (codeRead E - 64)) (omega arith)
 
 -- what is read off a lent table, where that is the light table
-pub lent-light : (t : List ℕ) (q : ℕ) → t ≡ lightTable → lightAtIn (λ k. getD t (min k 3504) 0) q ≡ lightAt q
+pub lent-light : (t : List ℕ) (q : ℕ) → t ≡ lightTable → lightAtIn (entryIn t) q ≡ lightAt q
 unfolding lightAt lightEntry
-lent-light t q e = ap (λ (s : List ℕ). lightAtIn (λ k. getD s (min k 3504) 0) q) e
+lent-light t q e = ap (λ (s : List ℕ). lightAtIn (entryIn s) q) e
 
-pub lent-code-light : (t : List ℕ) (D : ℕ) → t ≡ lightTable → codeLightIn (λ k. getD t (min k 3504) 0) D ≡ codeLight D
+pub lent-code-light : (t : List ℕ) (D : ℕ) → t ≡ lightTable → codeLightIn (entryIn t) D ≡ codeLight D
 unfolding codeLight lightEntry
-lent-code-light t D e = ap (λ (s : List ℕ). codeLightIn (λ k. getD s (min k 3504) 0) D) e
+lent-code-light t D e = ap (λ (s : List ℕ). codeLightIn (entryIn s) D) e

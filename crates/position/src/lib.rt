@@ -1,10 +1,10 @@
 // The position of a light, and the lights of positions and of codes. Each call reads the light table; those ending in `_in` read a lent one.
 ghost use mathlib.Core.Path.{_≡_};
-ghost use Prim.Native.Nat.{ℕ, min, _+_, _*_, _/_, _^_, _≤_, _<_};
+ghost use Prim.Native.Nat.{ℕ, _+_, _*_, _/_, _^_, _≤_, _<_};
 ghost use lib.Dec.{leb};
-ghost use lib.ListN.{getD};
 ghost use Rattle.laws.specs.Largest.{largest};
 ghost use Rattle.pq.specs.LightTable.{lightTable};
+ghost use Rattle.pq.specs.Pq.{entryIn};
 ghost use Rattle.position.specs.Position.{codeRead, codeLightIn, lightAtIn, codeLight, lightAt, positionOf};
 use pq::entry_in;
 use pq::light_table;
@@ -57,7 +57,7 @@ pub fn light_at(q: Position) -> DisplayLight
 
 // The same on a lent table, whatever it holds.
 pub fn light_in(table: &[u64; 3505], q: Position) -> DisplayLight
-    ensures { λ r. ⌜ r .0 ≡ lightAtIn (λ (k : ℕ). getD (now (table .entry)) (min k 3504) 0) (q .0) ⌝ }
+    ensures { λ r. ⌜ r .0 ≡ lightAtIn (entryIn (now (table .entry))) (q .0) ⌝ }
 {
     let k = q.0 / 256;
     let low = entry_in(table, k);
@@ -86,7 +86,7 @@ pub fn light_of_code(d: u64) -> DisplayLight
 
 // The same on a lent table, whatever it holds.
 pub fn light_of_code_in(table: &[u64; 3505], d: u64) -> DisplayLight
-    ensures { λ r. ⌜ r .0 ≡ codeLightIn (λ (k : ℕ). getD (now (table .entry)) (min k 3504) 0) d ⌝ }
+    ensures { λ r. ⌜ r .0 ≡ codeLightIn (entryIn (now (table .entry))) d ⌝ }
 {
     entry_in(table, 4 * (read_code(d) - 64))
 }

@@ -9,7 +9,7 @@ use lib.ListN.{length, getD, drop}
 use Rattle.laws.specs.Fraction.{whole}
 use Rattle.laws.proofs.ComputedTests.{at-hinted, rises}
 use Rattle.quantity.specs.Units.{units, tenThousand}
-use Rattle.pq.specs.Pq.{ValueAtMost, ValueAbove, indexSignal, IsEntry}
+use Rattle.pq.specs.Pq.{ValueAtMost, ValueAbove, indexSignal, entryIn, IsEntry}
 use Rattle.pq.specs.LightTable.{lightTable, lightEntry}
 use Rattle.pq.proofs.PqTests.{entryTest, entryTest→}
 use Rattle.pq.proofs.TableHints.{hints}
@@ -48,9 +48,9 @@ unfolding lightEntry
 entry-rule k = rule (min k 3504) (rw table-length (omega arith))
 
 -- what is read of the table, or of an array that holds it, at the nearest index
-pub entry-read : (t : List ℕ) (k : ℕ) → t ≡ lightTable → getD t (min k 3504) 0 ≡ lightEntry k
+pub entry-read : (t : List ℕ) (k : ℕ) → t ≡ lightTable → entryIn t k ≡ lightEntry k
 unfolding lightEntry
-entry-read t k h = ap (λ u. getD u (min k 3504) 0) h
+entry-read t k h = ap (λ u. entryIn u k) h
 
 -- ---- what the rule alone gives
 pub rule-grows : (i j p q : ℕ) → i ≤ j → IsEntry i p → IsEntry j q → p ≤ q

@@ -3,8 +3,10 @@
 -- m1 = 1305/8192 (2610/16384), m2 = 2523/32, c1 = 3424/4096, c2 = 77216/4096 (2413/128) and c3 = 76544/4096 (2392/128). Every power is
 -- cross-multiplied; r grows with w, so a fraction on one side of w gives a fraction on the same side of V.
 use mathlib.Core.Path.{_≡_}
-use Prim.Native.Nat.{ℕ, zero, suc, _+_, _*_, _^_, _≤_, _<_}
+use mathlib.Core.List.{List}
+use Prim.Native.Nat.{ℕ, zero, suc, min, _+_, _*_, _^_, _≤_, _<_}
 use native.Mathlib.Nat.{zero-lt-suc}
+use lib.ListN.{getD}
 use Rattle.laws.specs.Fraction.{Fraction, over, whole}
 use Rattle.quantity.specs.Units.{tenThousand}
 
@@ -39,6 +41,10 @@ indexSignal k = over k 3504 (zero-lt-suc 3503)
 
 abbrev pub positionSignal : ℕ → Fraction
 positionSignal q = over q 897024 (zero-lt-suc 897023)
+
+-- entry k of any table of as many lights; past its end the last
+abbrev pub entryIn : List ℕ → ℕ → ℕ
+entryIn t k = getD t (min k 3504) 0
 
 -- p is the right entry at index k: the light of signal k/3504 in whole units, rounded down
 unfoldable pub IsEntry : ℕ → ℕ → Type 0

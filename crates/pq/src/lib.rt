@@ -3,8 +3,7 @@ mod table;
 
 ghost use mathlib.Core.Path.{_≡_};
 ghost use Prim.Native.Nat.{min};
-ghost use lib.ListN.{getD};
-ghost use Rattle.pq.specs.Pq.{IsEntry};
+ghost use Rattle.pq.specs.Pq.{entryIn, IsEntry};
 ghost use Rattle.pq.specs.LightTable.{lightTable, lightEntry};
 use quantity::DisplayLight;
 use table::LIGHT_TABLE;
@@ -19,7 +18,7 @@ pub fn light_entry(k: u64) -> DisplayLight
 
 // Entry k of a lent table, whatever it holds.
 pub fn entry_in(table: &[u64; 3505], k: u64) -> DisplayLight
-    ensures { λ r. ⌜ r .0 ≡ getD (now (table .entry)) (min k 3504) 0 ⌝ }
+    ensures { λ r. ⌜ r .0 ≡ entryIn (now (table .entry)) k ⌝ }
 {
     let i = nearest_index(k) as usize;
     DisplayLight(table[i])

@@ -6,8 +6,7 @@ use Rattle.position.proofs.light_at.Statement.{statement}
 use Rattle.position.proofs.light_at.Tie as tie
 
 returns : tie.Need-returns
-returns c =
-    c .light-in .ensures ∙ lent-light (c .before .before .light-table .result) (c .before .before .before .args .q .0) (c .before .before .light-table .ensures)
+returns c = c .light-in .ensures ∙ lent-light _ (c .before .before .before .args .q .0) (c .before .before .light-table .ensures)
 
 pub light-at-spec : {M : Type 1} → statement M
 light-at-spec =

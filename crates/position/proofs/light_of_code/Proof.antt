@@ -6,8 +6,7 @@ use Rattle.position.proofs.light_of_code.Statement.{statement}
 use Rattle.position.proofs.light_of_code.Tie as tie
 
 returns : tie.Need-returns
-returns c =
-    c .light-of-code-in .ensures ∙ lent-code-light (c .before .before .light-table .result) (c .before .before .before .args .d) (c .before .before .light-table .ensures)
+returns c = c .light-of-code-in .ensures ∙ lent-code-light _ (c .before .before .before .args .d) (c .before .before .light-table .ensures)
 
 pub light-of-code-spec : {M : Type 1} → statement M
 light-of-code-spec =
