@@ -1,7 +1,8 @@
 -- The inequalities of the spline over three numbers: a = w − m, b = w − t, and q, by which the bent position lies below t.
 use mathlib.Core.Path.{_≡_, sym, subst, ap, _∙_}
 use Prim.Native.Nat.{ℕ, _+_, _*_, _≤_, _<_}
-use native.Mathlib.Nat.{add-comm, le-dest, le-of-lt, lt-of-not-le, mul-pos, mul-le-mul, mul-le-mul-left, mul-le-mul-right, le-of-mul-le-mul-left, lt-of-mul-lt-mul-left}
+use native.Mathlib.Nat.{add-comm, le-dest, le-of-lt, lt-of-not-le, mul-pos}
+use native.Mathlib.Nat.{mul-le-mul, mul-le-mul-left, mul-le-mul-right, le-of-mul-le-mul-left, lt-of-mul-lt-mul-left}
 use native.Mathlib.Decide.{decLe}
 use native.Mathlib.Omega.{arith}
 

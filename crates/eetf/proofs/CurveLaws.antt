@@ -97,7 +97,8 @@ bent-cases F L m f g = go (decLe L 1000)
 pub bent-le-thousand : (L m : ℕ) → bentLight L (lightAt m) m ≤ thousand
 bent-le-thousand L m =
     bent-cases (λ x. x ≤ thousand) L m (omega arith)
-    (λ h. le-trans (light-grows (bentPosition L m) (positionOf thousand) (curve-le-top (positionOf thousand) (positionOf (L * units)) (peak-above L h) (peak-near L h) m))
+    (λ h. le-trans (light-grows (bentPosition L m) (positionOf thousand)
+    (curve-le-top (positionOf thousand) (positionOf (L * units)) (peak-above L h) (peak-near L h) m))
     (position-is thousand .reached))
 
 pub bent-le-self : (L m : ℕ) → bentLight L (lightAt m) m ≤ lightAt m

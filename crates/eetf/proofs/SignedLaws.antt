@@ -1,8 +1,10 @@
 -- Equality of signed fractions is an equivalence that sums, products and quotients respect, and so do the orders.
 use mathlib.Core.Path.{_≡_, refl, ap, _∙_}
 use Prim.Native.Nat.{ℕ, _-_, _*_, _<_}
-use native.Mathlib.Nat.{eq-of-mul-eq-mul-left, mul-pos, mul-sub, mul-comm, mul-le-mul-left, mul-lt-mul-of-pos-left, le-of-mul-le-mul-left, lt-of-mul-lt-mul-left, lt-of-mul-lt-mul-right}
+use native.Mathlib.Nat.{eq-of-mul-eq-mul-left, mul-pos}
+use native.Mathlib.Nat.{mul-le-mul-left, mul-lt-mul-of-pos-left, le-of-mul-le-mul-left, lt-of-mul-lt-mul-left, lt-of-mul-lt-mul-right}
 use native.Mathlib.Omega.{arith}
+use Rattle.laws.proofs.DivisionLaws.{sub-mul}
 use Rattle.eetf.specs.Hermite.{Signed, _∕_, _⊞_, _⊟_, _⊠_, _⊘_, _≈_, _≼_, _≺_}
 
 pub ≈-refl : (r : Signed) → 0 < r .den → r ≈ r
@@ -58,7 +60,7 @@ pub ⊟-cong : {r s t u : Signed} → r ≈ s → t ≈ u → r ⊟ t ≈ s ⊟ 
 
 -- ---- dividing by k / e is multiplying by e / k
 positive-part : (t : Signed) (k e : ℕ) → t ≈ k ∕ e → (t .plus - t .minus) * e ≡ k * t .den
-positive-part t k e g = mul-comm (t .plus - t .minus) e ∙ mul-sub e (t .plus) (t .minus) ∙ omega (arith, g .cross)
+positive-part t k e g = sub-mul (t .plus) (t .minus) e ∙ omega (arith, g .cross)
 
 pub ⊘-cong : {r s t : Signed} (k e : ℕ) → 0 < k → r ≈ s → t ≈ k ∕ e → r ⊘ t ≈ s ⊠ e ∕ k
 ⊘-cong {r} {s} {t} k e p h g = ≈-trans inside (⊠-left (e ∕ k) p h)

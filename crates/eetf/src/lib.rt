@@ -50,7 +50,8 @@ pub fn bent_light(
 // M2 under a peak above 1,000 cd/m2 whose position is w, on a lent light table: M1 below the knee, then the light at the spline. Above the
 // peak the curve stays at its end.
 pub fn knee_curve(lights: &[u64; 3505], w: Position, m1: DisplayLight, m: Position) -> DisplayLight
-    ensures { λ r. ⌜ r .0 ≡ kneeCurve (entryIn (now (lights .entry))) (positionOf thousand) (peakPositionRead (w .0)) (min (m1 .0) tenThousand) (min (m .0) lastPosition) ⌝ }
+    ensures { λ r. ⌜ r .0 ≡ kneeCurve (entryIn (now (lights .entry))) (positionOf thousand) (peakPositionRead (w .0)) (min (m1 .0) tenThousand)
+        (min (m .0) lastPosition) ⌝ }
 {
     let end = smaller(larger(w.0, LOWEST_PEAK_POSITION), LAST_POSITION);
     let at = smaller(smaller(m.0, LAST_POSITION), end);

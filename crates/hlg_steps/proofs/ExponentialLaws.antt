@@ -82,7 +82,8 @@ low-pos x z p q hx hq h = go (decLe 1 z)
     go (yes y) = y
     go (no y) =
         let e : z ≡ 0 = omega arith in
-        absurd (not-le-of-lt (mul-pos hx (den-pos q (h .0) hq)) (le-trans (h .1) (le-of-eq (ap (λ (n : ℕ). sumNum p q (h .0) * n) e ∙ mul-zero (sumNum p q (h .0))))))
+        absurd (not-le-of-lt (mul-pos hx (den-pos q (h .0) hq)) (le-trans (h .1)
+        (le-of-eq (ap (λ (n : ℕ). sumNum p q (h .0) * n) e ∙ mul-zero (sumNum p q (h .0))))))
 
 -- a number at least an exponential is at least 1 + y
 at-least-two-terms : (x z p q : ℕ) → Exponential high x z p q → (q + p) * z ≤ x * q

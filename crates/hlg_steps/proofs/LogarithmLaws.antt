@@ -93,10 +93,18 @@ pub logarithm-of-less : (E F g : Fraction) → E ≼ F → Logarithm high F g �
 unfolding Logarithm Exponential
 logarithm-of-less E F g h (inl a) =
     let n = a .1 .0 in
-    inl (a .0, (n, cross-trans (innerNum E) (innerDen E) (innerNum F) (innerDen F) (sumNum (aboveC g) (slope g) n) (sumDen (slope g) n) (inner-pos F) (inner-grows E F h) (a .1 .1)))
+    inl (
+      a .0,
+      (
+        n,
+        cross-trans (innerNum E) (innerDen E) (innerNum F) (innerDen F) (sumNum (aboveC g) (slope g) n) (sumDen (slope g) n) (inner-pos F)
+            (inner-grows E F h) (a .1 .1),
+      ),
+    )
 logarithm-of-less E F g h (inr a) = inr (a .0, λ n. less n (a .1 n))
   where
-    less : (n : ℕ) → sumNum (belowC g) (slope g) n * innerNum F ≤ innerDen F * sumDen (slope g) n → sumNum (belowC g) (slope g) n * innerNum E ≤ innerDen E * sumDen (slope g) n
+    less : (n : ℕ) → sumNum (belowC g) (slope g) n * innerNum F ≤ innerDen F * sumDen (slope g) n
+        → sumNum (belowC g) (slope g) n * innerNum E ≤ innerDen E * sumDen (slope g) n
     less n k =
         let S = sumNum (belowC g) (slope g) n in
         let D = sumDen (slope g) n in
@@ -109,20 +117,25 @@ unfolding Logarithm
 lower-logarithm E g h k a = go (decLe 1 (belowC h)) a
   where
     go : Dec (1 ≤ belowC h) → Logarithm low E g → Logarithm low E h
-    go (no l) (inl b) = inl (omega arith, exponent-moves high (innerNum E) (innerDen E) (aboveC g) (slope g) (aboveC h) (slope h) (slope-pos g) (above-grows h g k) (b .1))
+    go (no l) (inl b) =
+        inl (omega arith, exponent-moves high (innerNum E) (innerDen E) (aboveC g) (slope g) (aboveC h) (slope h) (slope-pos g) (above-grows h g k) (b .1))
     go (yes l) (inl b) = inr (l, by-one (innerDen E) (innerNum E) (belowC h) (slope h) (at-least-one (innerNum E) (innerDen E) (aboveC g) (slope g) (b .1)))
     go (no l) (inr b) = absurd (past-c h g k (omega arith) (b .0))
-    go (yes l) (inr b) = inr (l, exponent-moves low (innerDen E) (innerNum E) (belowC g) (slope g) (belowC h) (slope h) (slope-pos g) (below-falls h g k) (b .1))
+    go (yes l) (inr b) =
+        inr (l, exponent-moves low (innerDen E) (innerNum E) (belowC g) (slope g) (belowC h) (slope h) (slope-pos g) (below-falls h g k) (b .1))
 
 pub upper-logarithm : (E g h : Fraction) → g ≼ h → Logarithm high E g → Logarithm high E h
 unfolding Logarithm
 upper-logarithm E g h k a = go (decLe 1 (belowC h)) a
   where
     go : Dec (1 ≤ belowC h) → Logarithm high E g → Logarithm high E h
-    go (no l) (inl b) = inl (omega arith, exponent-moves low (innerNum E) (innerDen E) (aboveC g) (slope g) (aboveC h) (slope h) (slope-pos g) (above-grows g h k) (b .1))
+    go (no l) (inl b) =
+        inl (omega arith, exponent-moves low (innerNum E) (innerDen E) (aboveC g) (slope g) (aboveC h) (slope h) (slope-pos g) (above-grows g h k) (b .1))
     go (yes l) (inl b) = absurd (past-c g h k (b .0) l)
-    go (no l) (inr b) = inl (omega arith, by-one (innerNum E) (innerDen E) (aboveC h) (slope h) (at-least-one (innerDen E) (innerNum E) (belowC g) (slope g) (b .1)))
-    go (yes l) (inr b) = inr (l, exponent-moves high (innerDen E) (innerNum E) (belowC g) (slope g) (belowC h) (slope h) (slope-pos g) (below-falls g h k) (b .1))
+    go (no l) (inr b) =
+        inl (omega arith, by-one (innerNum E) (innerDen E) (aboveC h) (slope h) (at-least-one (innerDen E) (innerNum E) (belowC g) (slope g) (b .1)))
+    go (yes l) (inr b) =
+        inr (l, exponent-moves high (innerDen E) (innerNum E) (belowC g) (slope g) (belowC h) (slope h) (slope-pos g) (below-falls g h k) (b .1))
 
 pub logarithm-ordered : (E g h : Fraction) → Logarithm low E g → Logarithm high E h → g ≼ h
 unfolding Logarithm

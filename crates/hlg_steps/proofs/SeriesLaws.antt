@@ -1,7 +1,8 @@
 -- The partial sums of the exponential: they grow with the exponent, and one of them with its last term once more bounds them all once the terms halve.
 use mathlib.Core.Path.{sym, subst}
 use Prim.Native.Nat.{ℕ, zero, suc, _+_, _*_, _^_, _≤_, _<_}
-use native.Mathlib.Nat.{le-refl, le-trans, mul-le-mul, mul-le-mul-left, mul-le-mul-right, le-of-mul-le-mul-right, le-add-right, add-mul, pow-zero, pow-suc, zero-lt-suc, mul-pos, zero-add, suc-add, add-comm}
+use native.Mathlib.Nat.{le-refl, le-trans, mul-le-mul, mul-le-mul-left, mul-le-mul-right, le-of-mul-le-mul-right, le-add-right}
+use native.Mathlib.Nat.{add-mul, pow-zero, pow-suc, zero-lt-suc, mul-pos, zero-add, suc-add, add-comm}
 use native.Mathlib.Omega.{arith}
 use Rattle.hlg_steps.specs.Exponential.{sumNum, sumDen}
 

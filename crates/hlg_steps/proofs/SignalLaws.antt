@@ -2,7 +2,8 @@
 use mathlib.Core.Path.{sym, subst₂}
 use mathlib.Core.Logic.{inl, inr}
 use Prim.Native.Nat.{ℕ, _*_, _≤_, _<_}
-use native.Mathlib.Nat.{le-refl, lt-of-not-le, not-le-of-lt, mul-le-mul, mul-le-mul-left, mul-le-mul-right, mul-lt-mul-of-pos-right, le-of-mul-le-mul-right, lt-of-mul-lt-mul-right, mul-pos, zero-lt-suc}
+use native.Mathlib.Nat.{le-refl, lt-of-not-le, not-le-of-lt, mul-le-mul, mul-le-mul-left}
+use native.Mathlib.Nat.{mul-le-mul-right, mul-lt-mul-of-pos-right, le-of-mul-le-mul-right, lt-of-mul-lt-mul-right, mul-pos, zero-lt-suc}
 use native.Mathlib.Decide.{decLe}
 use native.Mathlib.Omega.{arith}
 use lib.Dec.{lit≤}
@@ -43,7 +44,17 @@ half-below E g h k =
     (den-pos 17883277 10 (zero-lt-suc 17883276)) meet (sums-grow 5991073 17883277 p q 10 (below-half g k)) in
     let y : sumDen q 10 * 100000000 ≤ 71533108 * sumNum p q 10 = omega arith in
     let z : 71533108 * innerDen E ≤ innerNum E * 100000000 = inner-twelfth E h in
-    inr (below-half-pos g k, (10, omega (arith, cross-trans (sumDen q 10) (sumNum p q 10) 71533108 100000000 (innerNum E) (innerDen E) (zero-lt-suc 99999999) y z)))
+    inr (
+      below-half-pos g k,
+      (
+        10,
+        omega (
+          arith,
+          cross-trans (sumDen q 10) (sumNum p q 10) 71533108 100000000 (innerNum E) (innerDen E) (zero-lt-suc 99999999)
+              y z,
+        ),
+      ),
+    )
 
 -- ---- the signal
 squares-le : (x y : ℕ) → x * x ≤ y * y → x ≤ y
@@ -73,7 +84,11 @@ signal-of-more E F g h a = go (decLe (12 * F .num) (F .den)) a
   where
     go : Dec (12 * F .num ≤ F .den) → HlgSignal low E g → HlgSignal low F g
     go (yes l) (inl b) =
-        inl (l, cross-trans (g .num * g .num) (g .den * g .den) (3 * E .num) (1 * E .den) (3 * F .num) (1 * F .den) (mul-pos (zero-lt-suc 0) (E .pos)) (b .1) (omega (arith, h .cross)))
+        inl (
+          l,
+          cross-trans (g .num * g .num) (g .den * g .den) (3 * E .num) (1 * E .den) (3 * F .num) (1 * F .den) (mul-pos (zero-lt-suc 0) (E .pos)) (b .1)
+              (omega (arith, h .cross)),
+        )
     go (no l) (inl b) = inr (lt-of-not-le l, half-below F g (lt-of-not-le l) (half-root E g (b .0) (b .1)))
     go (yes l) (inr b) = absurd (not-le-of-lt (stays-above E F h (b .0)) l)
     go (no l) (inr b) = inr (lt-of-not-le l, logarithm-of-more E F g h (b .1))
@@ -84,7 +99,11 @@ signal-of-less E F g h a = go (decLe (12 * E .num) (E .den)) a
   where
     go : Dec (12 * E .num ≤ E .den) → HlgSignal high F g → HlgSignal high E g
     go (yes l) (inl b) =
-        inl (l, cross-trans (3 * E .num) (1 * E .den) (3 * F .num) (1 * F .den) (g .num * g .num) (g .den * g .den) (mul-pos (zero-lt-suc 0) (F .pos)) (omega (arith, h .cross)) (b .1))
+        inl (
+          l,
+          cross-trans (3 * E .num) (1 * E .den) (3 * F .num) (1 * F .den) (g .num * g .num) (g .den * g .den) (mul-pos (zero-lt-suc 0) (F .pos))
+              (omega (arith, h .cross)) (b .1),
+        )
     go (yes l) (inr b) =
         let k = half-above F g (b .0) (b .1) in
         inl (l, omega (arith, mul-le-mul-right (g .den * g .den) l, mul-le-mul-left (E .den) (mul-le-mul k k)))

@@ -69,7 +69,8 @@ steps-grow c d h = go (eq-or-lt-of-le places)
     places : min (c - 65) 954 ≤ min (d - 65) 954
     places = omega arith
 
-    go : (min (c - 65) 954 ≡ min (d - 65) 954) ⊎ (min (c - 65) 954 < min (d - 65) 954) → getD stepTable (min (c - 65) 954) 0 ≤ getD stepTable (min (d - 65) 954) 0
+    go : (min (c - 65) 954 ≡ min (d - 65) 954) ⊎ (min (c - 65) 954 < min (d - 65) 954)
+        → getD stepTable (min (c - 65) 954) 0 ≤ getD stepTable (min (d - 65) 954) 0
     go (inl e) = le-of-eq (ap (λ (i : ℕ). getD stepTable i 0) e)
     go (inr l) = le-of-lt (entries-rise (min (c - 65) 954) (min (d - 65) 954) l (omega arith))
 

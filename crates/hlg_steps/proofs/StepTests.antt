@@ -80,7 +80,8 @@ not-c d h k = omega arith
 pub scene-grows : (u t : ℕ) → u ≤ t → scene u ≼ scene t
 scene-grows u t h = record { cross = omega arith }
 
-curve-passed : (d t : ℕ) → 502 < d → Logarithm low (scene t) (thresholdSignal d) → Logarithm high (scene (t - 1)) (thresholdSignal d) → 2 ^ 40 < 12 * (t - 1) → Passed d t
+curve-passed : (d t : ℕ) → 502 < d → Logarithm low (scene t) (thresholdSignal d) → Logarithm high (scene (t - 1)) (thresholdSignal d) → 2 ^ 40 < 12 * (t - 1)
+    → Passed d t
 unfolding Threshold HlgSignal
 curve-passed d t l reach miss bright =
     record {
@@ -96,7 +97,9 @@ curve-passed d t l reach miss bright =
   where
     none : (u : ℕ) → u ≤ t - 1 → Logarithm low (scene u) (thresholdSignal d) → ⊥
     none u h k =
-        let at-c = logarithm-both (scene (t - 1)) (thresholdSignal d) (logarithm-of-more (scene u) (scene (t - 1)) (thresholdSignal d) (scene-grows u (t - 1) h) k) miss in
+        let at-c =
+        logarithm-both (scene (t - 1)) (thresholdSignal d) (logarithm-of-more (scene u) (scene (t - 1)) (thresholdSignal d) (scene-grows u (t - 1) h) k) miss
+        in
         not-c d (at-c .0) (at-c .1)
 
     smallest : (u : ℕ) → Threshold low d u → t ≤ u

@@ -2,7 +2,8 @@
 use mathlib.Core.Path.{_≡_, sym, _∙_, subst, subst₂}
 use mathlib.Core.Logic.{_↔_}
 use Prim.Native.Nat.{ℕ, zero, suc, pred, _+_, _-_, _*_, _/_, _≤_, _<_}
-use native.Mathlib.Nat.{le-refl, le-trans, zero-lt-suc, mul-comm, mul-sub, div-zero, div-add-mod, div-mul-le-self, le-div-iff-mul-le, mod-lt, div-eq-of-lt-le, lt-div-mul-add, suc-mul}
+use native.Mathlib.Nat.{le-refl, le-trans, zero-lt-suc, mul-comm, mul-sub, div-zero}
+use native.Mathlib.Nat.{div-add-mod, div-mul-le-self, le-div-iff-mul-le, mod-lt, div-eq-of-lt-le, lt-div-mul-add, suc-mul}
 use native.Mathlib.Omega.{arith}
 
 pub sub-mul : (m n k : ℕ) → (m - n) * k ≡ m * k - n * k

@@ -4,7 +4,8 @@ use mathlib.Core.Path.{_≡_, refl, sym, _∙_, ap, ap₂, subst₂}
 use mathlib.Core.List.{List, [], _∷_}
 use mathlib.Core.Bool.{Bool, true, false, _&&_}
 use Prim.Native.Nat.{ℕ, zero, suc, _+_, _*_, _^_, _%_, _≤_, _<_, zero-le}
-use native.Mathlib.Nat.{pow-zero, pow-succ', le-refl, le-trans, le-of-eq, lt-of-le-of-lt, add-le-add, mul-le-mul-left, add-mul-mod-self-left, mod-eq-of-lt, eq-of-mul-eq-mul-left, le-add-right, le-add-left, add-left-cancel, le-antisymm}
+use native.Mathlib.Nat.{pow-zero, pow-succ', le-refl, le-trans, le-of-eq, lt-of-le-of-lt, add-le-add}
+use native.Mathlib.Nat.{mul-le-mul-left, add-mul-mod-self-left, mod-eq-of-lt, eq-of-mul-eq-mul-left, le-add-right, le-add-left, add-left-cancel, le-antisymm}
 use native.Mathlib.Omega.{arith}
 use lib.Dec.{T, eqb, leb, eqb→eq, leb→le}
 
@@ -112,10 +113,19 @@ module _ {A : Type 0} (f : A → ℕ) (x : ℕ) where
   hor-each m c h [] = omega arith
   hor-each m c h (q ∷ qs) = omega (arith, h q, ap (λ t. x * t) (hor-each m c h qs))
 
-  hor-conv : (a m : A → A → A) (z : A) → ((p q : A) → f (a p q) ≡ f p + f q) → ((p q : A) → f (m p q) ≡ f p * f q) → f z ≡ 0 → (ps qs : List A) → hor f x (conv a m z ps qs) ≡ hor f x ps * hor f x qs
+  hor-conv : (a m : A → A → A) (z : A) → ((p q : A) → f (a p q) ≡ f p + f q) → ((p q : A) → f (m p q) ≡ f p * f q) → f z ≡ 0 → (ps qs : List A)
+      → hor f x (conv a m z ps qs) ≡ hor f x ps * hor f x qs
   hor-conv a m z ha hm hz [] qs = omega arith
   hor-conv a m z ha hm hz (p ∷ ps) [] = omega arith
-  hor-conv a m z ha hm hz (p ∷ ps) (q ∷ qs) = omega (arith, hz, hor-zip a ha (each (m p) (q ∷ qs)) (z ∷ conv a m z ps (q ∷ qs)), hor-each (m p) (f p) (hm p) (q ∷ qs), ap (λ t. x * t) (hor-conv a m z ha hm hz ps (q ∷ qs)))
+  hor-conv a m z ha hm hz (p ∷ ps) (q ∷ qs) =
+      omega (
+        arith,
+        hz,
+        hor-zip a ha (each (m p) (q ∷ qs)) (z ∷ conv a m z ps (q ∷ qs)),
+        hor-each (m p) (f p) (hm p) (q ∷ qs),
+        ap (λ t. x * t)
+            (hor-conv a m z ha hm hz ps (q ∷ qs)),
+      )
 
 ev-nil : (n : ℕ) (ρ : List ℕ) → ev n (nil n) ρ ≡ 0
 ev-nil zero ρ = refl
@@ -131,7 +141,8 @@ ev-add (suc n) p q ρ = hor-zip (λ (r : P n). ev n r (tl ρ)) (hd ρ) (add n) (
 
 ev-mul : (n : ℕ) (p q : P n) (ρ : List ℕ) → ev n (mul n p q) ρ ≡ ev n p ρ * ev n q ρ
 ev-mul zero p q ρ = refl
-ev-mul (suc n) p q ρ = hor-conv (λ (r : P n). ev n r (tl ρ)) (hd ρ) (add n) (mul n) (nil n) (λ r s. ev-add n r s (tl ρ)) (λ r s. ev-mul n r s (tl ρ)) (ev-nil n (tl ρ)) p q
+ev-mul (suc n) p q ρ =
+    hor-conv (λ (r : P n). ev n r (tl ρ)) (hd ρ) (add n) (mul n) (nil n) (λ r s. ev-add n r s (tl ρ)) (λ r s. ev-mul n r s (tl ρ)) (ev-nil n (tl ρ)) p q
 
 ev-ind : (n i : ℕ) (ρ : List ℕ) → ev n (ind n i) ρ ≡ nth n ρ i
 ev-ind zero i ρ = refl
@@ -168,10 +179,13 @@ abbrev pub below : (n : ℕ) → P n → P n → Bool
 below zero c d = leb c d
 below (suc n) ps qs = below-all (nil n) (below n) ps qs
 
-hor-below : {A : Type 0} (f : A → ℕ) (x : ℕ) (z : A) (b : A → A → Bool) → f z ≡ 0 → ((p q : A) → T (b p q) → f p ≤ f q) → (ps qs : List A) → T (below-all z b ps qs) → hor f x ps ≤ hor f x qs
+hor-below : {A : Type 0} (f : A → ℕ) (x : ℕ) (z : A) (b : A → A → Bool) → f z ≡ 0 → ((p q : A) → T (b p q) → f p ≤ f q) → (ps qs : List A)
+    → T (below-all z b ps qs) → hor f x ps ≤ hor f x qs
 hor-below f x z b e h [] qs t = zero-le
-hor-below f x z b e h (p ∷ ps) [] t = omega (arith, e, h p z (and-l (b p z) (below-all z b ps []) t), mul-le-mul-left x (hor-below f x z b e h ps [] (and-r (b p z) (below-all z b ps []) t)))
-hor-below f x z b e h (p ∷ ps) (q ∷ qs) t = add-le-add (h p q (and-l (b p q) (below-all z b ps qs) t)) (mul-le-mul-left x (hor-below f x z b e h ps qs (and-r (b p q) (below-all z b ps qs) t)))
+hor-below f x z b e h (p ∷ ps) [] t =
+    omega (arith, e, h p z (and-l (b p z) (below-all z b ps []) t), mul-le-mul-left x (hor-below f x z b e h ps [] (and-r (b p z) (below-all z b ps []) t)))
+hor-below f x z b e h (p ∷ ps) (q ∷ qs) t =
+    add-le-add (h p q (and-l (b p q) (below-all z b ps qs) t)) (mul-le-mul-left x (hor-below f x z b e h ps qs (and-r (b p q) (below-all z b ps qs) t)))
 
 ev-below : (n : ℕ) (p q : P n) (ρ : List ℕ) → T (below n p q) → ev n p ρ ≤ ev n q ρ
 ev-below zero p q ρ t = leb→le p q t
@@ -181,7 +195,9 @@ pub le-sound : (n : ℕ) (a b : E) (ρ : List ℕ) → T (below n (norm n a) (no
 le-sound n a b ρ t = subst₂ _≤_ (sym (norm-sound n a ρ)) (sym (norm-sound n b ρ)) (ev-below n (norm n a) (norm n b) ρ t)
 
 pub eq-sound : (n : ℕ) (a b : E) (ρ : List ℕ) → T (below n (norm n a) (norm n b) && below n (norm n b) (norm n a)) → val n a ρ ≡ val n b ρ
-eq-sound n a b ρ t = le-antisymm (le-sound n a b ρ (and-l (below n (norm n a) (norm n b)) (below n (norm n b) (norm n a)) t)) (le-sound n b a ρ (and-r (below n (norm n a) (norm n b)) (below n (norm n b) (norm n a)) t))
+eq-sound n a b ρ t =
+    le-antisymm (le-sound n a b ρ (and-l (below n (norm n a) (norm n b)) (below n (norm n b) (norm n a)) t))
+    (le-sound n b a ρ (and-r (below n (norm n a) (norm n b)) (below n (norm n b) (norm n a)) t))
 
 -- ---- the quick test of an equation: the values at one point whose coordinates are far apart (Kronecker's substitution).
 -- `far n f` is a point K of n numbers, each above f's value at the numbers after it and ones before it.
@@ -227,10 +243,12 @@ module _ (n : ℕ) (K ρ : List ℕ) where
 
   tail-bnd : (p : P n) (ps : List (P n)) → Bnd (suc n) (ev (suc n) (p ∷ ps)) K → Bnd (suc n) (ev (suc n) ps) K
   unfolding Bnd
-  tail-bnd p ps b = (lt-of-le-of-lt (tail-le p ps (tl K)) (b .0), bnd-mono n (λ σ. ev (suc n) ps (1 ∷ σ)) (λ σ. ev (suc n) (p ∷ ps) (1 ∷ σ)) (tail-le p ps) (tl K) (b .1))
+  tail-bnd p ps b =
+      (lt-of-le-of-lt (tail-le p ps (tl K)) (b .0), bnd-mono n (λ σ. ev (suc n) ps (1 ∷ σ)) (λ σ. ev (suc n) (p ∷ ps) (1 ∷ σ)) (tail-le p ps) (tl K) (b .1))
 
   ends : (ih : (p q : P n) → Bnd n (ev n p) (tl K) → Bnd n (ev n q) (tl K) → ev n p (tl K) ≡ ev n q (tl K) → ev n p (tl ρ) ≡ ev n q (tl ρ))
-      (ps qs : List (P n)) → Bnd (suc n) (ev (suc n) ps) K → Bnd (suc n) (ev (suc n) qs) K → ev (suc n) ps K ≡ ev (suc n) qs K → ev (suc n) ps ρ ≡ ev (suc n) qs ρ
+      (ps qs : List (P n)) → Bnd (suc n) (ev (suc n) ps) K → Bnd (suc n) (ev (suc n) qs) K → ev (suc n) ps K ≡ ev (suc n) qs K
+      → ev (suc n) ps ρ ≡ ev (suc n) qs ρ
   unfolding Bnd
   ends ih [] [] bp bq e = refl
   ends ih [] (q ∷ qs) bp bq e =
@@ -266,7 +284,10 @@ abbrev pub agree : ℕ → E → E → Bool
 agree n a b = let K : List ℕ = point n a b in eqb (val n a K) (val n b K)
 
 pub quick : (n : ℕ) (a b : E) (ρ : List ℕ) → T (agree n a b) → val n a ρ ≡ val n b ρ
-quick n a b ρ t = norm-sound n a ρ ∙ uniq n (norm n a) (norm n b) K ρ bp bq (sym (norm-sound n a K) ∙ eqb→eq (val n a K) (val n b K) t ∙ norm-sound n b K) ∙ sym (norm-sound n b ρ)
+quick n a b ρ t =
+    norm-sound n a ρ
+    ∙ uniq n (norm n a) (norm n b) K ρ bp bq (sym (norm-sound n a K) ∙ eqb→eq (val n a K) (val n b K) t ∙ norm-sound n b K)
+    ∙ sym (norm-sound n b ρ)
   where
     f : List ℕ → ℕ
     f σ = val n a σ + val n b σ

@@ -83,7 +83,8 @@ abbrev pub inCell : ℕ → ℕ → ℕ → ℕ → ℕ
 inCell k p d l = k * 256 + cellPart p d l
 
 -- a light in the cell k has its position there
-pub in-cell-is : (k l : ℕ) → k < 3504 → lightEntry k ≤ l → l < lightEntry (suc k) → IsPosition l (inCell k (lightEntry k) (lightEntry (suc k) - lightEntry k) l)
+pub in-cell-is : (k l : ℕ) → k < 3504 → lightEntry k ≤ l → l < lightEntry (suc k)
+    → IsPosition l (inCell k (lightEntry k) (lightEntry (suc k) - lightEntry k) l)
 unfolding lightAt lastPosition
 in-cell-is k l hk h g =
     record {

@@ -81,7 +81,8 @@ quotient-bounds s bs x y j h =
     let r = rounded s (x * 2 ^ j) y in
     at-trans s (size (powerOf s bs r) * y ^ n) (r ^ n * y ^ n) (x ^ n * 2 ^ (j * n))
     (at-mul s (size (powerOf s bs r)) (r ^ n) (y ^ n) (y ^ n) (power-bounds s bs r) (at-refl s (y ^ n)))
-    (subst₂ (At s) (of-product r y n) (of-product x (2 ^ j) n ∙ ap (λ z. x ^ n * z) (of-power 2 j n)) (at-power s (r * y) (x * 2 ^ j) n (at-rounded s (x * 2 ^ j) y h)))
+    (subst₂ (At s) (of-product r y n) (of-product x (2 ^ j) n ∙ ap (λ z. x ^ n * z) (of-power 2 j n))
+    (at-power s (r * y) (x * 2 ^ j) n (at-rounded s (x * 2 ^ j) y h)))
 
 -- x * 2 ^ p against y * 2 ^ q, tested without the twos that both have
 abbrev pub leScaled : ℕ → ℕ → ℕ → ℕ → Bool

@@ -185,7 +185,9 @@ lights-ordered {l} {k} {x} {y} g j h =
     let r = cross-root 2523 (ratioNum (v .num) (v .den)) (ratioDen (v .num) (v .den)) (ratioNum (u .num) (u .den)) (ratioDen (u .num) (u .den)) (nonzero 2522)
     (cross-trans (top v) (bottom v) (x .num ^ 32) (x .den ^ 32) (top u) (bottom u) (one-le-pow 32 (x .den) (x .pos)) (j .of-signal) (i .of-signal)) in
     let w = cross-power 8192 (v .num) (v .den) (u .num) (u .den) (w-of-ratio (v .num) (v .den) (u .num) (u .den) r) in
-    let p = cross-trans (l .num ^ 1305) (range l) (v .num ^ 8192) (v .den ^ 8192) (u .num ^ 8192) (u .den ^ 8192) (one-le-pow 8192 (v .den) (v .pos)) (j .of-light) w in
+    let p =
+    cross-trans (l .num ^ 1305) (range l) (v .num ^ 8192) (v .den ^ 8192) (u .num ^ 8192) (u .den ^ 8192) (one-le-pow 8192 (v .den) (v .pos)) (j .of-light) w
+    in
     let q = cross-root 1305 (l .num) (tenThousand * l .den) (k .num) (tenThousand * k .den) (nonzero 1304)
     (cross-trans (l .num ^ 1305) (range l) (u .num ^ 8192) (u .den ^ 8192) (k .num ^ 1305) (range k) (one-le-pow 8192 (u .den) (u .pos)) p (i .of-light)) in
     record { cross = le-of-mul-le-mul-right {k = tenThousand} (omega (arith, q)) tenThousand-pos }

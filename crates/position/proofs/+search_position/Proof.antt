@@ -42,7 +42,8 @@ module _ (t : ℕ) where
       let s = c .before .before .before .before .before in
       let a = s .args in
       let light = c .before .before .before .light-in .ensures ∙ lent-light (a .table .now) _ (s .pre .1 .0) in
-      lower-half (reaches (a .l)) (a .from) (a .span) (at-most-falls lightAt (a .l) light-grows) (omega arith) (lt-leb _ (a .l) (omega arith)) (c .search-position2 .ensures)
+      lower-half (reaches (a .l)) (a .from) (a .span) (at-most-falls lightAt (a .l) light-grows) (omega arith) (lt-leb _ (a .l) (omega arith))
+      (c .search-position2 .ensures)
 
 pub +search-position-spec : {M : Type 1} → statement M
 +search-position-spec =
