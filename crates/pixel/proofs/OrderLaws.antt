@@ -1,51 +1,57 @@
--- Order among the components of a pixel, and among greys under one peak.
-use mathlib.Core.Path.{_≡_, _∙_, ap}
+-- Order among the components of a pixel, and among greys under one peak: over lights and a position, then of codes.
+use mathlib.Core.Path.{_≡_, refl, _∙_, ap}
 use Prim.Native.Nat.{ℕ, _*_, _/_, _≤_, _<_}
 use native.Mathlib.Nat.{mul-le-mul-right, mul-div-cancel-left}
 use native.Mathlib.Decide.{decLe}
 use native.Mathlib.Omega.{arith}
 use Rattle.laws.proofs.DivisionLaws.{floor-grows}
-use Rattle.quantity.specs.Component.{Component, Pixel}
-use Rattle.position.specs.Position.{codeLight}
-use Rattle.position.proofs.LightLaws.{code-light-grows}
-use Rattle.eetf.specs.Curve.{mappedLight}
+use Rattle.quantity.specs.Component.{Component, Pixel, brightest}
+use Rattle.position.specs.Position.{codePosition, codeLight, lightAt}
+use Rattle.position.proofs.LightLaws.{light-grows, code-light-at, code-position-grows}
+use Rattle.eetf.specs.Curve.{bentLight, mappedLight}
+use Rattle.eetf.proofs.CurveLaws.{bent-grows}
 use Rattle.hlg.proofs.CodeLaws.{code-grows, grey-grows}
-use Rattle.pixel.specs.Conversion.{brightestLight, bent, mapped, code}
-use Rattle.pixel.proofs.PixelLaws.{light-of-brightest, bentTo, bent-of-brightest, bent-of-more, mapped-dark}
+use Rattle.pixel.specs.Conversion.{bentOf, mappedOf, codeOf, lights, brightestPosition, mapped, code}
+use Rattle.pixel.proofs.PixelLaws.{mapped-by, mapped-of-none, bent-of-light}
 
 -- a component light at least as large as another gives a mapped component and a code at least as large
-mapped-grows : (peak : ℕ) (p : Pixel) (i j : Component) → codeLight (p i) ≤ codeLight (p j) → mapped peak p i ≤ mapped peak p j
-unfolding mapped mappedLight
-mapped-grows peak p i j h = floor-grows _ _ (brightestLight p) (mul-le-mul-right (bent peak p) h)
+module _ (peak : ℕ) (x : Pixel) (m : ℕ) (i j : Component) (h : x i ≤ x j) where
+  mapped-grows : mappedOf peak x m i ≤ mappedOf peak x m j
+  unfolding mappedOf mappedLight
+  mapped-grows = floor-grows _ _ (brightest x) (mul-le-mul-right (bentOf peak x m) h)
+
+  pub ordered-of : (mappedOf peak x m i ≤ mappedOf peak x m j) × (codeOf peak x m i ≤ codeOf peak x m j)
+  unfolding codeOf
+  ordered-of = (mapped-grows, code-grows _ (mappedOf peak x m i) (mappedOf peak x m j) mapped-grows)
 
 pub ordered : (peak : ℕ) (p : Pixel) (i j : Component) → codeLight (p i) ≤ codeLight (p j) → (mapped peak p i ≤ mapped peak p j) × (code peak p i ≤ code peak p j)
 unfolding code
-ordered peak p i j h = let m = mapped-grows peak p i j h in (m, code-grows _ (mapped peak p i) (mapped peak p j) m)
+ordered peak p = ordered-of peak (lights p) (brightestPosition p)
 
--- ---- every component of a grey is what its light is bent to
+-- ---- every component of a grey is what its light is bent to, where that is the light at its position
 abbrev grey : ℕ → Pixel
-grey c k = c
+grey l k = l
 
-grey-light : (c : ℕ) → brightestLight (grey c) ≡ codeLight c
-grey-light c = light-of-brightest (grey c) ∙ ap codeLight (omega arith)
+grey-bent : (peak l m : ℕ) (i : Component) → l ≡ lightAt m → 0 < l → mappedOf peak (grey l) m i ≡ bentLight peak (lightAt m) m
+grey-bent peak l m i e h = mapped-by peak (grey l) m i refl (omega arith) (bent-of-light peak (grey l) m (omega arith)) ∙ mul-div-cancel-left _ h
 
-grey-bent : (peak c : ℕ) (i : Component) → 0 < codeLight c → mapped peak (grey c) i ≡ bentTo peak c
-unfolding mapped mappedLight
-grey-bent peak c i h =
-    ap (λ m. codeLight c * bent peak (grey c) / m) (grey-light c)
-    ∙ mul-div-cancel-left (bent peak (grey c)) h
-    ∙ bent-of-brightest peak (grey c)
-    ∙ ap (bentTo peak) (omega arith)
+module _ (peak : ℕ) {l m k n : ℕ} (e : l ≡ lightAt m) (f : k ≡ lightAt n) (h : m ≤ n) where
+  grey-grown : (i : Component) → mappedOf peak (grey l) m i ≤ mappedOf peak (grey k) n i
+  grey-grown i = go (decLe 1 l)
+    where
+      go : Dec (1 ≤ l) → mappedOf peak (grey l) m i ≤ mappedOf peak (grey k) n i
+      go (yes g) =
+          let more : 0 < k = omega (arith, light-grows m n h) in
+          omega (arith, grey-bent peak l m i e g, grey-bent peak k n i f more, bent-grows peak m n h)
+      go (no g) = omega (arith, mapped-of-none peak (grey l) m (omega arith) i)
 
-grey-grown : (peak c d : ℕ) (i : Component) → c ≤ d → mapped peak (grey c) i ≤ mapped peak (grey d) i
-grey-grown peak c d i l = go (decLe 1 (codeLight c))
+  pub greys-of : (i j : Component) → codeOf peak (λ c. l) m i ≤ codeOf peak (λ c. k) n j
+  unfolding codeOf mappedOf
+  greys-of i j = grey-grows (mappedOf peak (grey l) m i) (mappedOf peak (grey k) n i) (grey-grown i)
+
+pub greys : (peak c d : ℕ) → c ≤ d → (i j : Component) → code peak (λ k. c) i ≤ code peak (λ k. d) j
+unfolding code brightestPosition
+greys peak c d h = greys-of peak (at c) (at d) (code-position-grows (brightest (grey c)) (brightest (grey d)) (omega arith))
   where
-    go : Dec (1 ≤ codeLight c) → mapped peak (grey c) i ≤ mapped peak (grey d) i
-    go (yes h) =
-        let more : 0 < codeLight d = omega (arith, code-light-grows c d l) in
-        omega (arith, grey-bent peak c i h, grey-bent peak d i more, bent-of-more peak c d l)
-    go (no h) = omega (arith, mapped-dark peak (grey c) (omega (arith, grey-light c)) i)
-
-pub greys : (peak c d : ℕ) → c ≤ d → (i j : Component) → code peak (grey c) i ≤ code peak (grey d) j
-unfolding code mapped
-greys peak c d l i j = grey-grows (mapped peak (grey c) i) (mapped peak (grey d) i) (grey-grown peak c d i l)
+    at : (c : ℕ) → codeLight c ≡ lightAt (codePosition (brightest (grey c)))
+    at c = code-light-at c ∙ ap (λ D. lightAt (codePosition D)) (omega arith)

@@ -1,19 +1,21 @@
--- Laws of a converted pixel: its brightest light, what that is bent to, and its mapped components, in a black pixel too.
-use mathlib.Core.Path.{_≡_, sym, ap, subst}
+-- Laws of a converted pixel: over its lights and a position, then of codes; in a black pixel too.
+use mathlib.Core.Path.{_≡_, refl, _∙_, sym, ap, subst}
 use mathlib.Core.Logic.{_⊎_, inl, inr}
-use Prim.Native.Nat.{ℕ, max, _-_, _*_, _≤_}
+use Prim.Native.Nat.{ℕ, max, _+_, _*_, _/_, _≤_, _<_}
 use native.Mathlib.Nat.{le-trans, le-of-eq, le-antisymm, zero-div, zero-mul}
 use native.Mathlib.Decide.{decLe}
 use native.Mathlib.Omega.{arith}
+use Rattle.laws.proofs.DivisionLaws.{floor-le, lt-floor}
 use Rattle.quantity.specs.Units.{thousand, tenThousand, lastPosition}
 use Rattle.quantity.specs.Component.{Component, red, green, blue, Pixel, brightest}
-use Rattle.position.specs.Position.{codeRead, codeLight, lightAt}
+use Rattle.position.specs.Position.{codePosition, codeLight, lightAt}
 use Rattle.position.proofs.LightLaws.{light-at-most, code-light-at, code-light-grows}
 use Rattle.eetf.specs.Curve.{bentLight, mappedLight}
-use Rattle.eetf.proofs.CurveLaws.{bent-le-thousand, bent-grows}
+use Rattle.eetf.proofs.CurveLaws.{bent-le-thousand}
 use Rattle.eetf.proofs.MappingLaws.{ratio-le}
+use Rattle.hlg.specs.Code.{luminance, hlgCode}
 use Rattle.hlg.proofs.CodeLaws.{code-to}
-use Rattle.pixel.specs.Conversion.{brightestLight, brightestPosition, bent, mapped, code}
+use Rattle.pixel.specs.Conversion.{bentOf, mappedOf, lights, brightestLight, brightestPosition, bent, mapped, code}
 
 -- ---- the largest of three
 pub one-of : (p : Pixel) → (p red ≡ brightest p) ⊎ ((p green ≡ brightest p) ⊎ (p blue ≡ brightest p))
@@ -29,31 +31,107 @@ each-le p red = omega arith
 each-le p green = omega arith
 each-le p blue = omega arith
 
--- ---- the brightest light is that of the brightest code
+-- of numbers that grow with others the largest is that of the largest
+pub brightest-of : (f : ℕ → ℕ) → ((a b : ℕ) → a ≤ b → f a ≤ f b) → (p : Pixel) → brightest (λ i. f (p i)) ≡ f (brightest p)
+brightest-of f grows p = le-antisymm (omega (arith, under red, under green, under blue)) (least (one-of p))
+  where
+    under : (i : Component) → f (p i) ≤ f (brightest p)
+    under i = grows (p i) (brightest p) (each-le p i)
+
+    least : (p red ≡ brightest p) ⊎ ((p green ≡ brightest p) ⊎ (p blue ≡ brightest p)) → f (brightest p) ≤ brightest (λ i. f (p i))
+    least (inl e) = le-trans (le-of-eq (ap f (sym e))) (each-le (λ i. f (p i)) red)
+    least (inr (inl e)) = le-trans (le-of-eq (ap f (sym e))) (each-le (λ i. f (p i)) green)
+    least (inr (inr e)) = le-trans (le-of-eq (ap f (sym e))) (each-le (λ i. f (p i)) blue)
+
+-- ---- lights x mapped to r: each keeps its ratio to the brightest, m, which becomes n; rounded down
+pub record Floor (c n m r : ℕ) : Type 0 where
+  pub below : r * m ≤ c * n
+  pub above : c * n < (r + 1) * m
+
+pub record Mapped (m n : ℕ) (x r : Pixel) : Type 0 where
+  pub inside : (i : Component) → x i ≤ m
+  pub brightest : (x red ≡ m) ⊎ ((x green ≡ m) ⊎ (x blue ≡ m))
+  pub floors : (i : Component) → Floor (x i) n m (r i)
+
+module _ (peak : ℕ) (x : Pixel) (m : ℕ) where
+  pub ratio-kept : 0 < brightest x → Mapped (brightest x) (bentOf peak x m) x (mappedOf peak x m)
+  unfolding mappedOf mappedLight
+  ratio-kept h =
+      record {
+        inside = each-le x;
+        brightest = one-of x;
+        floors = λ i. record { below = floor-le (x i * bentOf peak x m) (brightest x); above = lt-floor (x i * bentOf peak x m) (brightest x) h };
+      }
+
+  pub mapped-le-bent : (i : Component) → mappedOf peak x m i ≤ bentOf peak x m
+  unfolding mappedOf mappedLight
+  mapped-le-bent i = ratio-le (x i) (brightest x) (bentOf peak x m) (each-le x i)
+
+  pub mapped-by : (i : Component) {c M n : ℕ} → x i ≡ c → brightest x ≡ M → bentOf peak x m ≡ n → mappedOf peak x m i ≡ c * n / M
+  unfolding mappedOf mappedLight
+  mapped-by i e f g = rw (e, f, g)
+
+  pub mapped-of-none : brightest x ≡ 0 → (i : Component) → mappedOf peak x m i ≡ 0
+  mapped-of-none h i = mapped-by i {c = 0} (omega (arith, each-le x i)) refl refl ∙ rw (zero-mul (bentOf peak x m)) (zero-div (brightest x))
+
+  -- where the brightest light is that at m
+  pub bent-of-light : brightest x ≡ lightAt m → bentOf peak x m ≡ bentLight peak (lightAt m) m
+  unfolding bentOf
+  bent-of-light e = ap (λ l. bentLight peak l m) e
+
+-- ---- codes: the brightest light is that of the brightest code
 pub light-of-brightest : (p : Pixel) → brightestLight p ≡ codeLight (brightest p)
 unfolding brightestLight
-light-of-brightest p = le-antisymm most least
-  where
-    x : Component → ℕ
-    x i = codeLight (p i)
+light-of-brightest = brightest-of codeLight code-light-grows
 
-    under : (i : Component) → x i ≤ codeLight (brightest p)
-    under i = code-light-grows (p i) (brightest p) (each-le p i)
+pub brightest-lit : (p : Pixel) → brightest (lights p) ≡ lightAt (brightestPosition p)
+unfolding brightestPosition brightestLight
+brightest-lit p = light-of-brightest p ∙ code-light-at (brightest p)
 
-    most : brightest x ≤ codeLight (brightest p)
-    most = omega (arith, under red, under green, under blue)
+pub mapped-dark : (peak : ℕ) (p : Pixel) → brightestLight p ≡ 0 → (i : Component) → mapped peak p i ≡ 0
+unfolding mapped
+mapped-dark peak p = mapped-of-none peak (lights p) (brightestPosition p)
 
-    least : codeLight (brightest p) ≤ brightest x
-    least = go (one-of p)
-      where
-        go : (p red ≡ brightest p) ⊎ ((p green ≡ brightest p) ⊎ (p blue ≡ brightest p)) → codeLight (brightest p) ≤ brightest x
-        go (inl e) = le-trans (le-of-eq (ap codeLight (sym e))) (each-le x red)
-        go (inr (inl e)) = le-trans (le-of-eq (ap codeLight (sym e))) (each-le x green)
-        go (inr (inr e)) = le-trans (le-of-eq (ap codeLight (sym e))) (each-le x blue)
+-- stage by stage over the codes themselves
+pub bent-by-codes : (peak : ℕ) (p : Pixel) → bent peak p ≡ bentLight peak (brightestLight p) (brightestPosition p)
+unfolding bent
+bent-by-codes peak p = refl
 
--- ---- the position of a code, and what the light of a brightest code is bent to
+pub mapped-by-codes : (peak : ℕ) (p : Pixel) (i : Component) → mapped peak p i ≡ mappedLight (codeLight (p i)) (brightestLight p) (bent peak p)
+unfolding mapped
+mapped-by-codes peak p i = refl
+
+pub code-by-codes : (peak : ℕ) (p : Pixel) (i : Component) → code peak p i ≡ hlgCode (luminance (mapped peak p red) (mapped peak p green) (mapped peak p blue)) (mapped peak p i)
+unfolding code
+code-by-codes peak p i = refl
+
+-- the ranges of lights, positions and codes
+pub component-le : (p : Pixel) (i : Component) → codeLight (p i) ≤ brightestLight p
+unfolding brightestLight
+component-le p i = each-le (lights p) i
+
+pub brightest-light-at-most : (p : Pixel) → brightestLight p ≤ tenThousand
+brightest-light-at-most p = omega (arith, light-of-brightest p, code-light-at (brightest p), light-at-most (codePosition (brightest p)))
+
+pub brightest-position-range : (p : Pixel) → brightestPosition p ≤ lastPosition
+unfolding brightestPosition lastPosition
+brightest-position-range p = omega arith
+
+pub bent-at-most : (peak : ℕ) (p : Pixel) → bent peak p ≤ thousand
+unfolding bent
+bent-at-most peak p =
+    subst (λ n. n ≤ thousand) (sym (bent-of-light peak (lights p) (brightestPosition p) (brightest-lit p))) (bent-le-thousand peak (brightestPosition p))
+
+pub mapped-at-most : (peak : ℕ) (p : Pixel) (i : Component) → mapped peak p i ≤ thousand
+unfolding mapped
+mapped-at-most peak p i = le-trans (mapped-le-bent peak (lights p) (brightestPosition p) i) (bent-at-most peak p)
+
+pub code-range : (peak : ℕ) (p : Pixel) (i : Component) → code peak p i ≤ 1019
+unfolding code
+code-range peak p i = code-to _ _
+
 abbrev pub place : ℕ → ℕ
-place D = 1024 * (codeRead D - 64)
+place D = codePosition D
 
 abbrev pub bentTo : ℕ → ℕ → ℕ
 bentTo peak D = bentLight peak (codeLight D) (place D)
@@ -62,44 +140,5 @@ pub bent-of-brightest : (peak : ℕ) (p : Pixel) → bent peak p ≡ bentTo peak
 unfolding bent brightestPosition
 bent-of-brightest peak p = ap (λ l. bentLight peak l (place (brightest p))) (light-of-brightest p)
 
--- the bent light is at most 1,000 cd/m2, and grows with the code
 pub bent-le : (peak D : ℕ) → bentTo peak D ≤ thousand
 bent-le peak D = subst (λ l. bentLight peak l (place D) ≤ thousand) (sym (code-light-at D)) (bent-le-thousand peak (place D))
-
-pub bent-of-more : (peak c d : ℕ) → c ≤ d → bentTo peak c ≤ bentTo peak d
-bent-of-more peak c d l =
-    subst (λ x. bentLight peak x (place c) ≤ bentTo peak d) (sym (code-light-at c))
-    (subst (λ y. bentLight peak (lightAt (place c)) (place c) ≤ bentLight peak y (place d)) (sym (code-light-at d)) (bent-grows peak (place c) (place d) (omega arith)))
-
--- ---- in a black pixel all stay 0
-dark : (p : Pixel) → brightestLight p ≡ 0 → (i : Component) → codeLight (p i) ≡ 0
-unfolding brightestLight
-dark p h i = omega (arith, each-le (λ j. codeLight (p j)) i)
-
-pub mapped-dark : (peak : ℕ) (p : Pixel) → brightestLight p ≡ 0 → (i : Component) → mapped peak p i ≡ 0
-unfolding mapped mappedLight
-mapped-dark peak p h i = rw (dark p h i, zero-mul (bent peak p)) (zero-div (brightestLight p))
-
--- ---- the ranges of lights, positions and codes
-pub component-le : (p : Pixel) (i : Component) → codeLight (p i) ≤ brightestLight p
-unfolding brightestLight
-component-le p i = each-le (λ j. codeLight (p j)) i
-
-pub brightest-light-at-most : (p : Pixel) → brightestLight p ≤ tenThousand
-brightest-light-at-most p = omega (arith, light-of-brightest p, code-light-at (brightest p), light-at-most (place (brightest p)))
-
-pub brightest-position-range : (p : Pixel) → brightestPosition p ≤ lastPosition
-unfolding brightestPosition lastPosition
-brightest-position-range p = omega arith
-
-pub bent-at-most : (peak : ℕ) (p : Pixel) → bent peak p ≤ thousand
-bent-at-most peak p = le-trans (le-of-eq (bent-of-brightest peak p)) (bent-le peak (brightest p))
-
-pub mapped-at-most : (peak : ℕ) (p : Pixel) (i : Component) → mapped peak p i ≤ thousand
-unfolding mapped mappedLight
-mapped-at-most peak p i =
-    le-trans (ratio-le (codeLight (p i)) (brightestLight p) (bent peak p) (component-le p i)) (bent-at-most peak p)
-
-pub code-range : (peak : ℕ) (p : Pixel) (i : Component) → code peak p i ≤ 1019
-unfolding code
-code-range peak p i = code-to _ _

@@ -1,28 +1,44 @@
--- A pixel of three PQ codes under a declared peak, converted (scope, The highlight curve and HLG code). Lights in units.
-use Prim.Native.Nat.{ℕ, _-_, _*_}
+-- A pixel under a declared peak, converted (scope, The highlight curve and HLG code): from three lights and the position of the brightest, then
+-- from ten-bit narrow-range codes, which have these. Lights in units, positions in 1/897,024.
+use Prim.Native.Nat.{ℕ}
 use Rattle.quantity.specs.Component.{Component, red, green, blue, Pixel, brightest}
-use Rattle.position.specs.Position.{codeRead, codeLight}
+use Rattle.position.specs.Position.{codePosition, codeLight}
 use Rattle.eetf.specs.Curve.{bentLight, mappedLight}
 use Rattle.hlg.specs.Code.{luminance, hlgCode}
 
--- M1, the largest of the three lights
-unfoldable pub brightestLight : Pixel → ℕ
-brightestLight p = brightest (λ i. codeLight (p i))
-
--- m, the position of the brightest code as read
-unfoldable pub brightestPosition : Pixel → ℕ
-brightestPosition p = 1024 * (codeRead (brightest p) - 64)
-
+-- ---- x are the lights, M1 the largest of them, m the position of the brightest
 -- M2
-unfoldable pub bent : ℕ → Pixel → ℕ
-bent peak p = bentLight peak (brightestLight p) (brightestPosition p)
+unfoldable pub bentOf : ℕ → Pixel → ℕ → ℕ
+bentOf peak x m = bentLight peak (brightest x) m
 
 -- the mapped components
-unfoldable pub mapped : ℕ → Pixel → Component → ℕ
-mapped peak p i = mappedLight (codeLight (p i)) (brightestLight p) (bent peak p)
+unfoldable pub mappedOf : ℕ → Pixel → ℕ → Component → ℕ
+mappedOf peak x m i = mappedLight (x i) (brightest x) (bentOf peak x m)
 
 -- the HLG codes
+unfoldable pub codeOf : ℕ → Pixel → ℕ → Component → ℕ
+codeOf peak x m i =
+    let r = mappedOf peak x m in
+    hlgCode (luminance (r red) (r green) (r blue)) (r i)
+
+-- ---- p are codes
+abbrev pub lights : Pixel → Pixel
+lights p i = codeLight (p i)
+
+unfoldable pub brightestLight : Pixel → ℕ
+brightestLight p = brightest (lights p)
+
+unfoldable pub brightestPosition : Pixel → ℕ
+brightestPosition p = codePosition (brightest p)
+
+unfoldable pub bent : ℕ → Pixel → ℕ
+unfolding bentOf brightestLight
+bent peak p = bentOf peak (lights p) (brightestPosition p)
+
+unfoldable pub mapped : ℕ → Pixel → Component → ℕ
+unfolding mappedOf bent
+mapped peak p = mappedOf peak (lights p) (brightestPosition p)
+
 unfoldable pub code : ℕ → Pixel → Component → ℕ
-code peak p i =
-    let m = mapped peak p in
-    hlgCode (luminance (m red) (m green) (m blue)) (m i)
+unfolding codeOf mapped
+code peak p = codeOf peak (lights p) (brightestPosition p)

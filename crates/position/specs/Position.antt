@@ -10,9 +10,16 @@ use Rattle.pq.specs.LightTable.{lightEntry}
 abbrev pub codeRead : ℕ → ℕ
 codeRead D = min (max D 64) 940
 
+-- its index in the light table, four to a code, and its position, which is 256 times that
+abbrev pub codeIndex : ℕ → ℕ
+codeIndex D = 4 * (codeRead D - 64)
+
+abbrev pub codePosition : ℕ → ℕ
+codePosition D = 1024 * (codeRead D - 64)
+
 -- P[4(D − 64)]
 abbrev pub codeLightIn : (ℕ → ℕ) → ℕ → ℕ
-codeLightIn P D = P (4 * (codeRead D - 64))
+codeLightIn P D = P (codeIndex D)
 
 -- P[k] + floor((P[k+1] − P[k]) × f / 256), k = q div 256 and f = q mod 256
 abbrev pub lightAtIn : (ℕ → ℕ) → ℕ → ℕ
