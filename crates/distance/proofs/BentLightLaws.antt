@@ -1,82 +1,37 @@
--- The bent light of every pixel that is not black, enclosed by whole units: within a unit where the curve doesn't bend it, else within the ratio 361 / 360.
-use mathlib.Core.Path.{_≡_, refl, sym, _∙_, ap, subst}
+-- The bent light of a pixel whose X is the signal of an index of the light table, enclosed: within the rounding of what it is mapped to where the
+-- curve doesn't bend it, else within a ratio.
+use mathlib.Core.Path.{_≡_, refl, _∙_, ap, subst}
 use mathlib.Core.Logic.{_⊎_, inl, inr}
 use Prim.Native.Nat.{ℕ, pred, min, _+_, _-_, _*_, _/_, _≤_, _<_}
 use native.Mathlib.Nat.{le-refl}
 use native.Mathlib.Decide.{decLe}
 use native.Mathlib.Omega.{arith}
-use Rattle.laws.specs.Fraction.{whole}
+use Rattle.laws.specs.Fraction.{Fraction, over, whole, _≼_}
 use Rattle.laws.specs.Side.{Side, low, high}
 use Rattle.quantity.specs.Units.{units, thousand, lastPosition}
+use Rattle.quantity.specs.Component.{Component, Pixel, brightest}
 use Rattle.pq.specs.Pq.{positionSignal}
 use Rattle.pq.specs.LightTable.{lightTable, lightEntry}
-use Rattle.position.specs.Position.{codeLight, lightAt, positionOf}
-use Rattle.position.proofs.LightLaws.{light-grows, light-at-entry, code-light-at}
+use Rattle.pq.proofs.EntryLaws.{entries-grow}
+use Rattle.position.specs.Position.{lightAt, positionOf}
+use Rattle.position.proofs.LightLaws.{light-grows, light-at-entry}
 use Rattle.position.proofs.PositionLaws.{position-is}
 use Rattle.position.proofs.PeakLaws.{thousand-position, peak-past}
 use Rattle.peaks.proofs.PeakSignals.{peak-between, thousand-low, thousand-high}
 use Rattle.eetf.specs.Curve.{kneeCurve, bentLight}
 use Rattle.eetf.proofs.SplineLaws.{curve, curve-stays, knee-curve-light}
 use Rattle.eetf.proofs.CurveLaws.{unbent, bent-by-curve, bent-le-self}
-use Rattle.pixel.proofs.PixelLaws.{place, bentTo}
-use Rattle.exact.specs.ExactValue.{signal, Value, Light, Ends, BentSignal, Bent, Smaller, BentLight}
-use Rattle.distance.proofs.NearLaws.{BentWithin}
-use Rattle.distance.proofs.LightLaws.{codeIndex, index-le, code-entry, code-low, code-light, light-low, light-high}
-use Rattle.distance.proofs.PixelDistance.{around}
+use Rattle.exact.specs.ExactValue.{Value, Light, Given, Ends, BentSignal, BentLight}
+use Rattle.distance.proofs.FoundNumbers.{leastLight, ratioUnder, ratioOver, positionsOff, leastBent}
+use Rattle.distance.proofs.NearLaws.{end, BentWithin}
+use Rattle.distance.proofs.LightLaws.{entries, around, light-low, light-high}
 use Rattle.distance.proofs.BentSignalLaws.{Around, endsAround, are-around, straight, bent-low, bent-high, bent-range}
 use Rattle.distance.proofs.BentLightTests.{slow-at}
 
--- whole units on both sides of the bent light, within a ratio of it
-pub record Enclosure (p q peak D : ℕ) : Type 0 where
-  pub b : Side → ℕ
-  pub lights : (s : Side) → BentLight s peak (signal D) (whole (b s))
-  pub within : BentWithin p q (codeLight D) (bentTo peak D) (b low) (b high)
-
-second-entry : lightEntry 1 ≡ 81
-unfolding lightEntry lightTable
-second-entry = refl
-
--- a code above black has at least the light of the first index
-pub seen-light : (D : ℕ) → 0 < signal D .num → 81 ≤ codeLight D
-seen-light D h =
-    let grown : lightAt (256 * 1) ≤ lightAt (place D) = light-grows (256 * 1) (place D) (omega arith) in
-    omega (arith, grown, light-at-entry 1, second-entry, code-light-at D)
-
-thousand-ge : 81 ≤ thousand
-unfolding thousand units
-thousand-ge = omega arith
-
--- ---- a peak up to 1,000: the smaller of the brightest light and 1,000 cd/m2
-pub up-to-thousand : (peak D : ℕ) → peak ≤ 1000 → 0 < signal D .num → Enclosure 1 1 peak D
-unfolding BentLight
-up-to-thousand peak D h seen = record { b = λ s. around s n; lights = side; within = within }
-  where
-    n : ℕ
-    n = bentTo peak D
-
-    is : n ≡ min (codeLight D) thousand
-    is = unbent peak (codeLight D) (place D) h
-
-    top : Dec (thousand ≤ codeLight D) → Smaller high (signal D) (whole (n + 1))
-    top (yes g) = inl (omega (arith, is))
-    top (no g) =
-        let e : n ≡ codeLight D = omega (arith, is) in
-        inr (subst (λ l. Light high (signal D) (whole (l + 1))) (sym e) (code-light high D))
-
-    side : (s : Side) → ((peak ≤ 1000) × Smaller s (signal D) (whole (around s n))) ⊎ ((1000 < peak) × Bent s peak (signal D) (whole (around s n)))
-    side low = inl (h, (omega (arith, is), code-low D n seen (omega (arith, is))))
-    side high = inl (h, top (decLe thousand (codeLight D)))
-
-    within : BentWithin 1 1 (codeLight D) n n (n + 1)
-    within = record { lower = omega arith; upper = omega arith; bent = omega (arith, is); seen = omega (arith, is, seen-light D seen, thousand-ge) }
-
--- ---- a higher peak: t is 674,406, and w the peak's position
-module _ (peak D : ℕ) (more : 1000 < peak) (most : peak ≤ 10000) where
+-- ---- a peak above 1,000: t is 674,406, and w the peak's position
+module _ (peak : ℕ) (more : 1000 < peak) (most : peak ≤ 10000) where
   abbrev w : ℕ
   w = positionOf (peak * units)
-
-  abbrev m : ℕ
-  m = place D
 
   far : 674406 + 98 ≤ w
   far = peak-past peak more
@@ -91,9 +46,6 @@ module _ (peak D : ℕ) (more : 1000 < peak) (most : peak ≤ 10000) where
   up : 674406 < w
   up = omega (arith, far)
 
-  before : pred w ≡ w - 1
-  before = omega arith
-
   -- J lies from t to t + 1, H from w - 1 to w + 2
   J-low : Value low (whole thousand) (positionSignal 674406)
   unfolding Value
@@ -102,6 +54,9 @@ module _ (peak D : ℕ) (more : 1000 < peak) (most : peak ≤ 10000) where
   J-high : Value high (whole thousand) (positionSignal (674406 + 1))
   unfolding Value
   J-high = thousand-high
+
+  before : pred w ≡ w - 1
+  before = omega arith
 
   H-low : Value low (whole (peak * units)) (positionSignal (w - 1))
   unfolding Value
@@ -118,83 +73,171 @@ module _ (peak D : ℕ) (more : 1000 < peak) (most : peak ≤ 10000) where
   unfolding ends
   stand = are-around peak 674406 w far J-low J-high H-low H-high
 
-  -- what the brightest light is mapped to is the light at the curve's position
-  to-light : bentTo peak D ≡ lightAt (curve 674406 w m)
+  -- the bent light of X = m from the bent signal v and its light l
+  bent-by : (G : Given) (s : Side) (m v : ℕ) (l : Fraction) → G .X s (positionSignal m) → BentSignal s ends (min m (ends .H s)) v
+      → Light s (positionSignal v) l → BentLight G s peak l
+  unfolding BentLight ends
+  bent-by G s m v l a b h = inr (more, record { ends = ends; x = m; at = a; v = v; bent = b; light = h })
+
+  by-self : (G : Given) (s : Side) (m : ℕ) (l : Fraction) → 2 * m + 5 + w ≤ 3 * 674406 → G .X s (positionSignal m)
+      → Light s (positionSignal m) l → BentLight G s peak l
+  by-self G s m l h a c = bent-by G s m m l a (straight ends 674406 w stand far near s m m h (omega arith)) c
+
+  -- what the light at m is mapped to is the light at the curve's position
+  abbrev bentAt : ℕ → ℕ
+  bentAt m = curve 674406 w m
+
+  to-light : (m : ℕ) → bentLight peak (lightAt m) m ≡ lightAt (bentAt m)
   unfolding lightAt
-  to-light =
-      bent-by-curve peak (codeLight D) (place D) more
-      ∙ ap (λ t. kneeCurve lightEntry t (positionOf (peak * units)) (codeLight D) (place D)) thousand-position
-      ∙ ap (λ l. kneeCurve lightEntry 674406 (positionOf (peak * units)) l (place D)) (code-light-at D)
+  to-light m =
+      bent-by-curve peak (lightAt m) m more
+      ∙ ap (λ t. kneeCurve lightEntry t (positionOf (peak * units)) (lightAt m) m) thousand-position
       ∙ knee-curve-light 674406 w up near lightEntry m
 
-  mapped-le : bentTo peak D ≤ codeLight D
-  mapped-le = subst (λ l. bentLight peak l m ≤ l) (sym (code-light-at D)) (bent-le-self peak m)
+  stays : (m : ℕ) → 2 * m + 5 + w ≤ 3 * 674406 → bentLight peak (lightAt m) m ≡ lightAt m
+  stays m h = to-light m ∙ ap lightAt (curve-stays 674406 w up near m (omega arith))
 
-  mapped-ge : 256 ≤ curve 674406 w m → 81 ≤ bentTo peak D
-  mapped-ge h = omega (arith, to-light, light-grows (256 * 1) (curve 674406 w m) h, light-at-entry 1, second-entry)
+  -- from five half positions below the knee on
+  module _ (m : ℕ) (h : 3 * 674406 < 2 * m + 5 + w) where
+    bends : 3 * 674406 < 2 * min m w + 5 + w
+    bends = omega (arith, far, h)
 
-  -- the bent light from the bent signal v and its light l
-  bent-light : (s : Side) (v l : ℕ) → BentSignal s ends (min m (ends .H s)) v → Light s (positionSignal v) (whole l) → BentLight s peak (signal D) (whole l)
-  unfolding BentLight ends
-  bent-light s v l g h = inr (more, record { ends = ends; x = m; same = omega arith; v = v; bent = g; light = h })
+    range : (leastBent ≤ bentAt m) × (bentAt m ≤ 674406)
+    range = bent-range w m (omega (arith, far)) last bends
 
-  -- five half positions and more below the knee the light stays
-  pub below-knee : 0 < signal D .num → 2 * m + 5 + w ≤ 3 * 674406 → Enclosure 1 1 peak D
-  below-knee seen h = record { b = λ s. around s (codeLight D); lights = side; within = within }
+    by-low : (G : Given) (l : Fraction) → G .X low (positionSignal m) → Light low (positionSignal (bentAt m - positionsOff)) l → BentLight G low peak l
+    by-low G l a c =
+        bent-by G low m (bentAt m - positionsOff) l a
+        (bent-low ends 674406 w stand far near m m (bentAt m - positionsOff) bends (le-refl m) (omega (arith, range))) c
+
+    by-high : (G : Given) (l : Fraction) → G .X high (positionSignal m) → Light high (positionSignal (bentAt m + positionsOff)) l → BentLight G high peak l
+    by-high G l a c =
+        bent-by G high m (bentAt m + positionsOff) l a
+        (bent-high ends 674406 w stand far near m m (bentAt m + positionsOff) bends (omega arith) (le-refl _)) c
+
+-- ---- a pixel of lights x that gives G: X is the signal of the position m of an index, and the brightest light is that of X
+pub record Indexed (G : Given) (x : Pixel) (m : ℕ) : Type 0 where
+  pub k : ℕ
+  pub at : m ≡ 256 * k
+  pub some : 0 < k
+  pub range : k ≤ 3504
+  pub seen : 0 < G .level
+  pub lit : brightest x ≡ lightAt m
+  pub signal : (s : Side) → G .X s (positionSignal m)
+  pub own : (s : Side) (i : Component) → G .Own s i (around s (x i))
+  pub most : (s : Side) (l : Fraction) → Light s (positionSignal m) l → G .Most s l
+
+-- parts of units on both sides of the bent light, within a ratio of what the brightest light is mapped to
+pub record Enclosure (p q : ℕ) (G : Given) (peak m : ℕ) : Type 0 where
+  pub b : Side → ℕ
+  pub lights : (s : Side) → BentLight G s peak (over (b s) (entries .parts) (around s 0 .pos))
+  pub within : BentWithin entries p q (lightAt m) (bentLight peak (lightAt m) m) b
+
+second-entry : lightEntry 1 ≡ leastLight
+unfolding lightEntry lightTable
+second-entry = refl
+
+thousand-ge : leastLight ≤ thousand
+unfolding thousand units
+thousand-ge = omega arith
+
+module _ {G : Given} {x : Pixel} {m : ℕ} (I : Indexed G x m) (peak : ℕ) (most : peak ≤ 10000) where
+  abbrev n : ℕ
+  n = bentLight peak (lightAt m) m
+
+  at-entry : lightAt m ≡ lightEntry (I .k)
+  at-entry = ap lightAt (I .at) ∙ light-at-entry (I .k)
+
+  pub lit-light : leastLight ≤ lightAt m
+  lit-light = omega (arith, at-entry, second-entry, entries-grow 1 (I .k) (I .some))
+
+  -- the light of X
+  own-low : (l : Fraction) → l ≼ around low (lightAt m) → Light low (positionSignal m) l
+  own-low l c = light-low (I .k) l (I .some) (I .range) (record { cross = omega (arith, I .at) }) (subst (λ e. l ≼ around low e) at-entry c)
+
+  own-high : (l : Fraction) → around high (lightAt m) ≼ l → Light high (positionSignal m) l
+  own-high l c = light-high (I .k) l (I .range) (record { cross = omega (arith, I .at) }) (subst (λ e. around high e ≼ l) at-entry c)
+
+  pub own-light : (s : Side) → Light s (positionSignal m) (around s (lightAt m))
+  own-light low = own-low (around low (lightAt m)) (record { cross = le-refl _ })
+  own-light high = own-high (around high (lightAt m)) (record { cross = le-refl _ })
+
+  -- a peak up to 1,000: the smaller of the brightest light and 1,000 cd/m2
+  up-to-thousand : peak ≤ 1000 → Enclosure 1 1 G peak m
+  unfolding BentLight
+  up-to-thousand h = record { b = λ s. end entries s n; lights = side; within = within }
     where
-      stays : bentTo peak D ≡ codeLight D
-      stays = to-light ∙ ap lightAt (curve-stays 674406 w up near m (omega arith)) ∙ sym (code-light-at D)
+      is : n ≡ min (lightAt m) thousand
+      is = unbent peak (lightAt m) m h
 
-      own : (s : Side) → Light s (positionSignal m) (whole (around s (codeLight D)))
-      own low = rw (code-entry D) (light-low (codeIndex D) (lightEntry (codeIndex D)) (omega arith) (index-le D) (record { cross = omega arith }) (le-refl _))
-      own high = rw (code-entry D) (light-high (codeIndex D) (index-le D) (record { cross = omega arith }))
+      top : Dec (thousand ≤ lightAt m) → BentLight G high peak (around high n)
+      top (yes g) = inl (h, inl (omega (arith, is)))
+      top (no g) = inl (h, inr (I .most high (around high n) (own-high (around high n) (record { cross = omega (arith, is) }))))
 
-      side : (s : Side) → BentLight s peak (signal D) (whole (around s (codeLight D)))
-      side s = bent-light s m (around s (codeLight D)) (straight ends 674406 w stand far near s m m h (omega arith)) (own s)
+      side : (s : Side) → BentLight G s peak (around s n)
+      side low = inl (h, (omega (arith, is), I .most low (around low n) (own-low (around low n) (record { cross = omega (arith, is) }))))
+      side high = top (decLe thousand (lightAt m))
 
-      within : BentWithin 1 1 (codeLight D) (bentTo peak D) (codeLight D) (codeLight D + 1)
-      within = record { lower = omega (arith, stays); upper = omega (arith, stays); bent = mapped-le; seen = omega (arith, stays, seen-light D seen) }
+      within : BentWithin entries 1 1 (lightAt m) n (λ s. end entries s n)
+      within = record { lower = le-refl _; upper = le-refl _; bent = omega (arith, is); seen = omega (arith, is, lit-light, thousand-ge) }
 
-  -- from there on the curve's light is enclosed by entries of the table eight positions and a cell away
-  pub on-curve : 3 * 674406 < 2 * m + 5 + w → Enclosure 360 361 peak D
-  on-curve h = record { b = b; lights = side; within = within }
+  -- five half positions and more below the knee: the light of X
+  below-knee : (above : 1000 < peak) → 2 * m + 5 + positionOf (peak * units) ≤ 3 * 674406 → Enclosure 1 1 G peak m
+  below-knee above h = record { b = λ s. end entries s (lightAt m); lights = side; within = within }
+    where
+      is : n ≡ lightAt m
+      is = stays peak above most m h
+
+      side : (s : Side) → BentLight G s peak (around s (lightAt m))
+      side s = by-self peak above most G s m (around s (lightAt m)) h (I .signal s) (own-light s)
+
+      within : BentWithin entries 1 1 (lightAt m) n (λ s. end entries s (lightAt m))
+      within = record { lower = omega (arith, is); upper = omega (arith, is); bent = omega (arith, is); seen = omega (arith, is, lit-light) }
+
+  pub left : (peak ≤ 1000) ⊎ (2 * m + 5 + positionOf (peak * units) ≤ 3 * 674406) → Enclosure 1 1 G peak m
+  left c = go (decLe peak 1000) c
+    where
+      go : Dec (peak ≤ 1000) → (peak ≤ 1000) ⊎ (2 * m + 5 + positionOf (peak * units) ≤ 3 * 674406) → Enclosure 1 1 G peak m
+      go (yes h) d = up-to-thousand h
+      go (no h) (inl g) = absurd (h g)
+      go (no h) (inr g) = below-knee (omega arith) g
+
+  -- from there on the curve's light, by entries of the table so many positions and a cell away; s is the bent position
+  pub on-curve : 1000 < peak → 3 * 674406 < 2 * m + 5 + positionOf (peak * units) → Enclosure ratioUnder ratioOver G peak m
+  on-curve above h = record { b = b; lights = side; within = record { lower = lower; upper = upper; bent = bent-le-self peak m; seen = seen } }
     where
       s : ℕ
-      s = curve 674406 w m
+      s = bentAt peak above most m
 
-      h' : 3 * 674406 < 2 * min m w + 5 + w
-      h' = omega (arith, far)
+      r : (leastBent ≤ s) × (s ≤ 674406)
+      r = range peak above most m h
 
-      range : (563095 ≤ s) × (s ≤ 674406)
-      range = bent-range w m (omega (arith, far)) last h'
+      is : n ≡ lightAt s
+      is = to-light peak above most m
 
-      k : ℕ
-      k = (s - 8) / 256
+      j : ℕ
+      j = (s - positionsOff) / 256
 
-      n : ℕ
-      n = (s + 8) / 256
+      i : ℕ
+      i = (s + positionsOff) / 256
 
       b : Side → ℕ
-      b low = lightEntry k
-      b high = lightEntry (n + 1) + 1
+      b low = end entries low (lightEntry j)
+      b high = end entries high (lightEntry (i + 1))
 
-      side : (e : Side) → BentLight e peak (signal D) (whole (b e))
+      side : (e : Side) → BentLight G e peak (over (b e) (entries .parts) (around e 0 .pos))
       side low =
-          bent-light low (s - 8) (lightEntry k) (bent-low ends 674406 w stand far near m m (s - 8) h' (le-refl m) (omega (arith, range)))
-          (light-low k (lightEntry k) (omega (arith, range)) (omega (arith, range)) (record { cross = omega arith }) (le-refl _))
+          by-low peak above most m h G _ (I .signal low)
+          (light-low j _ (omega (arith, r)) (omega (arith, r)) (record { cross = omega arith }) (record { cross = le-refl _ }))
       side high =
-          bent-light high (s + 8) (lightEntry (n + 1) + 1) (bent-high ends 674406 w stand far near m m (s + 8) h' (omega arith) (le-refl _))
-          (light-high (n + 1) (omega (arith, range)) (record { cross = omega arith }))
+          by-high peak above most m h G _ (I .signal high)
+          (light-high (i + 1) _ (omega (arith, r)) (record { cross = omega arith }) (record { cross = le-refl _ }))
 
-      lower : 360 * bentTo peak D ≤ 361 * lightEntry k
-      lower =
-          let up-to : lightAt s ≤ lightAt (256 * k + 263) = light-grows s (256 * k + 263) (omega arith) in
-          omega (arith, to-light, up-to, slow-at k (omega (arith, range)) (omega (arith, range)) .0)
+      lower : ratioUnder * end entries low n ≤ ratioOver * end entries low (lightEntry j)
+      lower = omega (arith, is, light-grows s (256 * j + 255 + positionsOff) (omega arith), slow-at j (omega (arith, r)) (omega (arith, r)) .0)
 
-      upper : 360 * (lightEntry (n + 1) + 1) ≤ 361 * (bentTo peak D + 1)
-      upper =
-          let from : lightAt (256 * n - 8) ≤ lightAt s = light-grows (256 * n - 8) s (omega arith) in
-          omega (arith, to-light, from, slow-at n (omega (arith, range)) (omega (arith, range)) .1)
+      upper : ratioUnder * end entries high (lightEntry (i + 1)) ≤ ratioOver * end entries high n
+      upper = omega (arith, is, light-grows (256 * i - positionsOff) s (omega arith), slow-at i (omega (arith, r)) (omega (arith, r)) .1)
 
-      within : BentWithin 360 361 (codeLight D) (bentTo peak D) (lightEntry k) (lightEntry (n + 1) + 1)
-      within = record { lower = lower; upper = upper; bent = mapped-le; seen = mapped-ge (omega (arith, range)) }
+      seen : leastLight ≤ n
+      seen = omega (arith, is, light-grows (256 * 1) s (omega (arith, r)), light-at-entry 1, second-entry)

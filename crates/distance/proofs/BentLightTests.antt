@@ -1,23 +1,28 @@
--- Over the bent positions the light table grows slowly: 271 positions take less than the ratio 361 / 360. One computed test, cell by cell.
+-- Over the bent positions the light table grows slowly: a cell and the positions that a bent signal lies off take less than the ratio. One computed
+-- test, cell by cell.
 use mathlib.Core.Bool.{Bool, _&&_}
 use Prim.Native.Nat.{ℕ, _+_, _-_, _*_, _≤_, _<_}
-use lib.Dec.{T, leb, leb→le}
-use lib.Ieee.Fits.{and-l, and-r}
+use lib.Dec.{T, leb}
+use Rattle.laws.specs.Side.{low, high}
 use Rattle.laws.proofs.ComputedTests.{everyIn, chunk}
 use Rattle.pq.specs.LightTable.{lightTable, lightEntry}
 use Rattle.position.specs.Position.{lightAt}
+use Rattle.distance.proofs.FoundNumbers.{ratioUnder, ratioOver, positionsOff, firstCell, cells}
+use Rattle.distance.proofs.NearLaws.{end}
+use Rattle.distance.proofs.StepLaws.{two}
+use Rattle.distance.proofs.LightLaws.{entries}
 
--- from the cell k to 263 positions past its begin, and from 8 before it to a unit past its end
+-- the light of entry k against the lights of its cell and of so many positions past it, and that of the next against those from so many before it
 abbrev slow : ℕ → Bool
-slow k = leb (360 * lightAt (256 * k + 263)) (361 * lightEntry k) && leb (360 * (lightEntry (k + 1) + 1)) (361 * lightAt (256 * k - 8))
+slow k =
+    leb (ratioUnder * (entries .parts * lightAt (256 * k + 255 + positionsOff))) (ratioOver * end entries low (lightEntry k)) &&
+    leb (ratioUnder * end entries high (lightEntry (k + 1))) (ratioOver * (entries .parts * lightAt (256 * k - positionsOff)))
 
-all-slow : T (everyIn slow 2199 436)
+all-slow : T (everyIn slow firstCell cells)
 unfolding lightAt lightEntry lightTable
 all-slow = tt
 
-pub slow-at : (k : ℕ) → 2199 ≤ k → k < 2635 → (360 * lightAt (256 * k + 263) ≤ 361 * lightEntry k) × (360 * (lightEntry (k + 1) + 1) ≤ 361 * lightAt (256 * k - 8))
-slow-at k h g =
-    let a = leb (360 * lightAt (256 * k + 263)) (361 * lightEntry k) in
-    let b = leb (360 * (lightEntry (k + 1) + 1)) (361 * lightAt (256 * k - 8)) in
-    let t = chunk slow 2199 436 all-slow k h g in
-    (leb→le _ _ (and-l a b t), leb→le _ _ (and-r a b t))
+pub slow-at : (k : ℕ) → firstCell ≤ k → k < firstCell + cells
+    → (ratioUnder * (entries .parts * lightAt (256 * k + 255 + positionsOff)) ≤ ratioOver * end entries low (lightEntry k)) ×
+    (ratioUnder * end entries high (lightEntry (k + 1)) ≤ ratioOver * (entries .parts * lightAt (256 * k - positionsOff)))
+slow-at k h g = two _ _ _ _ (chunk slow firstCell cells all-slow k h g)

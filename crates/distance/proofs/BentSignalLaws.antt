@@ -1,4 +1,4 @@
--- The bent signal is enclosed within eight positions of the engine's bent position, from J in [t, t + 1] and H in [w − 1, w + 2].
+-- The bent signal is enclosed within a few positions of the engine's bent position, from J in [t, t + 1] and H in [w − 1, w + 2].
 use mathlib.Core.Path.{_≡_, refl, subst}
 use mathlib.Core.Logic.{inl, inr}
 use Prim.Native.Nat.{ℕ, min, _+_, _-_, _*_, _^_, _≤_, _<_}
@@ -13,13 +13,14 @@ use Rattle.pq.specs.Pq.{positionSignal}
 use Rattle.exact.specs.ExactValue.{Value, Ends, Spline, BentSignal}
 use Rattle.eetf.proofs.CubicLaws.{Place, steep, flat}
 use Rattle.eetf.proofs.SplineLaws.{curve, curve-le-top, curve-le-self, curve-place, curve-near-knee}
+use Rattle.distance.proofs.FoundNumbers.{positionsOff, leastBent}
 
 -- ---- the spline's inequality at the unfavourable ends
-spline-low : (a c q u v t : ℕ) → 96 ≤ c → Place a (c + 2) q → u ≤ a + 3 → v + (q + 8) ≤ t → 4 * u ^ 3 + 27 * c ^ 2 * v ≤ 27 * c ^ 2 * t
+spline-low : (a c q u v t : ℕ) → 96 ≤ c → Place a (c + 2) q → u ≤ a + 3 → v + (q + positionsOff) ≤ t → 4 * u ^ 3 + 27 * c ^ 2 * v ≤ 27 * c ^ 2 * t
 spline-low a c q u v t l p hu hv =
     simp powers (omega (arith, steep a c q l p, mul-le-mul hu (mul-le-mul hu hu), mul-le-mul-left (c * c) hv))
 
-spline-high : (a b q e s v t : ℕ) → 1 ≤ b → Place a b q → a ≤ e + 2 → s + q ≡ t → s + 8 ≤ v → 27 * (b + 2) ^ 2 * (t + 1) ≤ 4 * e ^ 3 + 27 * (b + 2) ^ 2 * v
+spline-high : (a b q e s v t : ℕ) → 1 ≤ b → Place a b q → a ≤ e + 2 → s + q ≡ t → s + positionsOff ≤ v → 27 * (b + 2) ^ 2 * (t + 1) ≤ 4 * e ^ 3 + 27 * (b + 2) ^ 2 * v
 spline-high a b q e s v t l p he hq hv = go (decLe 7 q)
   where
     go : Dec (7 ≤ q) → 27 * (b + 2) ^ 2 * (t + 1) ≤ 4 * e ^ 3 + 27 * (b + 2) ^ 2 * v
@@ -80,8 +81,8 @@ module _ {peak : ℕ} (e : Ends peak) (t w : ℕ) (around : Around e t w) (far :
   straight low m x h k = inl (omega (arith, around), omega (arith, around))
   straight high m x h k = inl (omega (arith, around), omega (arith, around))
 
-  -- from there on eight positions below the curve, and more, are a lower fraction
-  pub bent-low : (m x v : ℕ) → 3 * t < 2 * min m w + 5 + w → m ≤ x → v + 8 ≤ curve t w m → BentSignal low e (min x (e .H low)) v
+  -- from there on so many positions below the curve, and more, are a lower fraction
+  pub bent-low : (m x v : ℕ) → 3 * t < 2 * min m w + 5 + w → m ≤ x → v + positionsOff ≤ curve t w m → BentSignal low e (min x (e .H low)) v
   bent-low m x v h k l =
       let up : t < w = omega arith in
       let top = curve-le-top t w up near m in
@@ -93,8 +94,8 @@ module _ {peak : ℕ} (e : Ends peak) (t w : ℕ) (around : Around e t w) (far :
       let curved = spline-low a c q (e .H high - min x (e .H low)) v (e .J low) (omega (arith, around)) p (omega (arith, around)) (omega (arith, around)) in
       inr (inr (omega (arith, around), curved))
 
-  -- and eight above it, and more, an upper one
-  pub bent-high : (m x v : ℕ) → 3 * t < 2 * min m w + 5 + w → x ≤ m + 1 → curve t w m + 8 ≤ v → BentSignal high e (min x (e .H high)) v
+  -- and so many above it, and more, an upper one
+  pub bent-high : (m x v : ℕ) → 3 * t < 2 * min m w + 5 + w → x ≤ m + 1 → curve t w m + positionsOff ≤ v → BentSignal high e (min x (e .H high)) v
   bent-high m x v h k l = go (decLe (3 * e .J high) (2 * min x (e .H high) + e .H low))
     where
       up : t < w
@@ -122,7 +123,7 @@ module _ {peak : ℕ} (e : Ends peak) (t w : ℕ) (around : Around e t w) (far :
       go (no r) = inr (inr (omega (arith, around, top, p .shallow), curved))
 
 -- ---- where a bent position lies, t being 674,406
-pub bent-range : (w m : ℕ) → 674410 ≤ w → w ≤ 897024 → 3 * 674406 < 2 * min m w + 5 + w → (563095 ≤ curve 674406 w m) × (curve 674406 w m ≤ 674406)
+pub bent-range : (w m : ℕ) → 674410 ≤ w → w ≤ 897024 → 3 * 674406 < 2 * min m w + 5 + w → (leastBent ≤ curve 674406 w m) × (curve 674406 w m ≤ 674406)
 bent-range w m l h k = (
   omega (arith, curve-near-knee 674406 w (omega arith) (omega arith) m (omega arith) (omega arith)),
   curve-le-top 674406 w (omega arith) (omega arith) m,

@@ -6,54 +6,55 @@ use native.Mathlib.Nat.{mul-pos, mul-le-mul-right, mul-lt-mul-of-pos-right, le-o
 use native.Mathlib.Omega.{arith}
 use Rattle.laws.specs.Fraction.{Fraction, _≼_}
 use Rattle.laws.specs.Side.{low, high}
-use Rattle.quantity.specs.Component.{Component, Pixel, brightest}
-use Rattle.exact.specs.ExactValue.{signal, Signal}
-use Rattle.exact.proofs.ValueLaws.{signal-ordered}
-use Rattle.distance.specs.Demand.{LessThanTwo, NineSixteenths, Enclosed}
+use Rattle.quantity.specs.Component.{Component}
+use Rattle.exact.specs.ExactValue.{Given, Signal}
+use Rattle.exact.proofs.BentLaws.{Sound}
+use Rattle.exact.proofs.ValueLaws.{ordered}
+use Rattle.distance.specs.Demand.{LessThan, AtMost, Enclosed}
 
-module _ (peak : ℕ) (p : Pixel) (i : Component) where
-  enclosures-ordered : {A B : Fraction → Type 0} (x : Enclosed peak p i A) (y : Enclosed peak p i B) → x .fraction low ≼ y .fraction high
-  enclosures-ordered x y = signal-ordered peak p i (x .signals low) (y .signals high)
+module _ {G : Given} (S : Sound G) (peak : ℕ) (i : Component) where
+  enclosures-ordered : {A B : Fraction → Type 0} (x : Enclosed G peak i A) (y : Enclosed G peak i B) → x .fraction low ≼ y .fraction high
+  enclosures-ordered x y = ordered S peak i (x .signals low) (y .signals high)
 
-  pub near-codes : (c d : ℕ) → Enclosed peak p i (LessThanTwo c) → Enclosed peak p i (LessThanTwo d) → c < d + 4
+  pub near-codes : (c d : ℕ) → Enclosed G peak i (LessThan 2 c) → Enclosed G peak i (LessThan 2 d) → c < d + 4
   near-codes c d x y = go (x .fraction low) (y .fraction high) (enclosures-ordered x y) (x .inside low) (y .inside high)
     where
-      go : (g h : Fraction) → g ≼ h → LessThanTwo c g → LessThanTwo d h → c < d + 4
+      go : (g h : Fraction) → g ≼ h → LessThan 2 c g → LessThan 2 d h → c < d + 4
       go g h o u v =
           lt-of-mul-lt-mul-right (g .den * h .den)
           (omega (arith, o .cross, mul-lt-mul-of-pos-right (u .above) (h .pos), mul-lt-mul-of-pos-right (v .below) (g .pos)))
 
-  pub nearer-codes : (c d : ℕ) → Enclosed peak p i (NineSixteenths c) → Enclosed peak p i (NineSixteenths d) → 8 * c ≤ 8 * d + 9
+  pub nearer-codes : (c d : ℕ) → Enclosed G peak i (AtMost 9 16 c) → Enclosed G peak i (AtMost 9 16 d) → 8 * c ≤ 8 * d + 9
   nearer-codes c d x y = go (x .fraction low) (y .fraction high) (enclosures-ordered x y) (x .inside low) (y .inside high)
     where
-      go : (g h : Fraction) → g ≼ h → NineSixteenths c g → NineSixteenths d h → 8 * c ≤ 8 * d + 9
+      go : (g h : Fraction) → g ≼ h → AtMost 9 16 c g → AtMost 9 16 d h → 8 * c ≤ 8 * d + 9
       go g h o u v =
           le-of-mul-le-mul-right {k = g .den * h .den}
           (omega (arith, o .cross, mul-le-mul-right (h .den) (u .above), mul-le-mul-right (g .den) (v .below))) (mul-pos (g .pos) (h .pos))
 
   -- which for whole codes is one at most
-  pub neighbours : (c d : ℕ) → Enclosed peak p i (NineSixteenths c) → Enclosed peak p i (NineSixteenths d) → c ≤ d + 1
+  pub neighbours : (c d : ℕ) → Enclosed G peak i (AtMost 9 16 c) → Enclosed G peak i (AtMost 9 16 d) → c ≤ d + 1
   neighbours c d x y = omega (arith, nearer-codes c d x y)
 
   -- in a black pixel the bounds admit the codes 63 to 65, and 64
-  black : (g : Fraction) → signal (brightest p) .num ≡ 0 → Signal low peak p i g → g .num ≡ 0
+  black : (g : Fraction) → G .level ≡ 0 → Signal G low peak i g → g .num ≡ 0
   unfolding Signal
   black g e (inl a) = omega (arith, a .1)
   black g e (inr a) = absurd (omega (arith, a .0))
 
-  pub black-near : (d : ℕ) → signal (brightest p) .num ≡ 0 → Enclosed peak p i (LessThanTwo d) → (63 ≤ d) × (d ≤ 65)
+  pub black-near : (d : ℕ) → G .level ≡ 0 → Enclosed G peak i (LessThan 2 d) → (63 ≤ d) × (d ≤ 65)
   black-near d e x = go (x .fraction low) (black (x .fraction low) e (x .signals low)) (x .inside low)
     where
-      go : (g : Fraction) → g .num ≡ 0 → LessThanTwo d g → (63 ≤ d) × (d ≤ 65)
+      go : (g : Fraction) → g .num ≡ 0 → LessThan 2 d g → (63 ≤ d) × (d ≤ 65)
       go g z u =
           let more : 62 < d = lt-of-mul-lt-mul-right (g .den) (omega (arith, u .below)) in
           let less : d < 66 = lt-of-mul-lt-mul-right (g .den) (omega (arith, u .above)) in
           (more, omega arith)
 
-  pub black-nearer : (d : ℕ) → signal (brightest p) .num ≡ 0 → Enclosed peak p i (NineSixteenths d) → d ≡ 64
+  pub black-nearer : (d : ℕ) → G .level ≡ 0 → Enclosed G peak i (AtMost 9 16 d) → d ≡ 64
   black-nearer d e x = go (x .fraction low) (black (x .fraction low) e (x .signals low)) (x .inside low)
     where
-      go : (g : Fraction) → g .num ≡ 0 → NineSixteenths d g → d ≡ 64
+      go : (g : Fraction) → g .num ≡ 0 → AtMost 9 16 d g → d ≡ 64
       go g z u =
           let more : 16 * d ≤ 16 * 64 + 9 = le-of-mul-le-mul-right {k = g .den} (omega (arith, u .above)) (g .pos) in
           let less : 16 * 64 ≤ 16 * d + 9 = le-of-mul-le-mul-right {k = g .den} (omega (arith, u .below)) (g .pos) in

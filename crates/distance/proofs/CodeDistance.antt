@@ -1,14 +1,16 @@
 -- The distance of a code from its exact value, for a component whose fractions are near its mapped number: scene lights and signals on both sides.
-use mathlib.Core.Path.{_≡_, subst, sym, ap}
-use Prim.Native.Nat.{ℕ, suc, _+_, _-_, _*_, _^_, _≤_, _<_}
-use native.Mathlib.Nat.{le-trans, le-of-lt, le-refl, lt-of-not-le, not-le-of-lt, mul-le-mul-left, mul-le-mul-right, le-of-mul-le-mul-right, pow-le-pow-left, pow-suc, zero-lt-suc}
+use mathlib.Core.Path.{_≡_, refl, subst, sym, ap}
+use mathlib.Core.Logic.{_⊎_, inl, inr}
+use Prim.Native.Nat.{ℕ, _+_, _-_, _*_, _^_, _≤_, _<_}
+use native.Mathlib.Nat.{le-trans, le-of-lt, lt-of-not-le, not-le-of-lt, mul-le-mul-left, mul-le-mul-right, le-of-mul-le-mul-right, pow-le-pow-left, pow-suc}
+use native.Mathlib.Nat.{zero-lt-suc}
 use native.Mathlib.Decide.{decLe}
 use native.Mathlib.Omega.{arith}
-use lib.Dec.{lit<, lit≤}
-use lib.ListN.{getD}
+use lib.Dec.{T}
 use Rattle.laws.specs.Fraction.{Fraction, over}
-use Rattle.laws.specs.Side.{Side, low, high}
-use Rattle.quantity.specs.Units.{thousand}
+use Rattle.laws.specs.Side.{Side, low, high, other}
+use Rattle.laws.proofs.ComputedTests.{every, everyPair}
+use Rattle.quantity.specs.Component.{Component, Pixel, weighted}
 use Rattle.hlg_steps.specs.Exponential.{sumNum, sumDen}
 use Rattle.hlg_steps.specs.Signal.{innerNum, innerDen, aboveC, belowC, slope, HlgSignal}
 use Rattle.hlg_steps.specs.Steps.{scene, thresholdSignal}
@@ -16,12 +18,13 @@ use Rattle.hlg_steps.specs.StepTable.{stepTable, step}
 use Rattle.hlg_steps.proofs.SignalTests.{signal-test}
 use Rattle.hlg_steps.proofs.StepLaws.{step-pos, step-signal-low, step-signal-high, steps-grow}
 use Rattle.hlg.proofs.CancelledLaws.{C, K, C-pos, Reach, Code}
+use Rattle.distance.specs.Demand.{LessThan, AtMost}
 use Rattle.distance.proofs.SceneBounds.{Scaled}
 use Rattle.distance.proofs.AdditiveLaws.{add-up, add-lo}
 use Rattle.distance.proofs.RatioLaws.{mult-up, mult-lo}
 use Rattle.distance.proofs.NearLaws.{Near}
-use Rattle.distance.proofs.StepTests.{sixteenths, least-high, least-low, past}
-use Rattle.distance.proofs.StepLaws.{step-entry, sixteenth-low, sixteenth-high, room-high, room-low, step-ratio}
+use Rattle.distance.proofs.StepTests.{sixteenths, sixteenth, least, ratio}
+use Rattle.distance.proofs.StepLaws.{Stepped, sixteenth-signal, Room, between-steps}
 
 -- a step that is not reached is enough
 missed : {t y r : ℕ} → ¬ Reach t y r → C * r ^ 6 ≤ t ^ 6 * K * y
@@ -35,118 +38,125 @@ missed {t} {y} {r} h = go (decLe 1 r) (decLe (t ^ 6 * K * y) (C * r ^ 6))
 fifth : (c k t s y r r5 r6 : ℕ) → 0 < r → r6 ≡ r5 * r → t ≤ s → 593 * r ≤ y → s * k * y ≤ c * r6 → t * k * 593 ≤ c * r5
 fifth c k t s y r r5 r6 p e h j g = le-of-mul-le-mul-right {k = r} (omega (arith, ap (λ x. c * x) e, mul-le-mul-right (k * y) h, mul-le-mul-left (t * k) j)) p
 
--- no component of at most 1,000 cd/m2 reaches 1,016
-pub code-range : {y r d : ℕ} → 593 * r ≤ y → r ≤ thousand → Code y r d → d ≤ 1015
-code-range {y} {r} {d} part h c = go (decLe d 1015)
+-- where a of blue alone does not reach the code e, no component of at most a does
+pub code-below : {y r d a : ℕ} (e : ℕ) → 65 ≤ e → 593 * r ≤ y → r ≤ a → C * a ^ 5 < step e ^ 6 * K * 593 → Code y r d → d < e
+code-below {y} {r} {d} {a} e from part h past c = lt-of-not-le (λ l. none l (c .reached (omega arith)))
   where
-    none : (d : ℕ) → 1016 ≤ d → ¬ Reach (step d) y r
-    none d a k =
+    none : e ≤ d → ¬ Reach (step d) y r
+    none l k =
         not-le-of-lt past
-        (le-trans (fifth C K (getD stepTable 951 0 ^ 6) (step d ^ 6) y r (r ^ 5) (r ^ 6) (k .some) (pow-suc r 5)
-        (pow-le-pow-left (subst (λ t. t ≤ step d) (step-entry 951 (lit< tt)) (steps-grow 1016 d a)) 6) part (k .power))
+        (le-trans (fifth C K (step e ^ 6) (step d ^ 6) y r (r ^ 5) (r ^ 6) (k .some) (pow-suc r 5) (pow-le-pow-left (steps-grow e d l) 6) part (k .power))
         (mul-le-mul-left C (pow-le-pow-left h 5)))
 
-    go : Dec (d ≤ 1015) → d ≤ 1015
-    go (yes a) = a
-    go (no a) = absurd (none d (omega arith) (c .reached (omega arith)))
-
--- g, of the HLG signal of a scene light e whose result is n / d and luminance y / z
-pub record Encloses (s : Side) (n d y z : ℕ) (g : Fraction) : Type 0 where
+-- ---- what a bound asks at a code on one side: a scene light e that the fractions fit, with a signal inside
+pub record Endpoint (s : Side) (Fits : ℕ → Type 0) (Inside : Fraction → Type 0) : Type 0 where
   pub e : ℕ
-  pub by-scene : Scaled s e n d y z
-  pub by-signal : HlgSignal s (scene e) g
+  pub fits : Fits e
+  pub g : Fraction
+  pub signal : HlgSignal s (scene e) g
+  pub inside : Inside g
 
-signal-zero : HlgSignal low (scene 0) (over 0 1 (zero-lt-suc 0))
-unfolding sumNum sumDen innerNum innerDen aboveC belowC slope
-signal-zero = signal-test low (scene 0) (over 0 1 (zero-lt-suc 0)) tt
+-- at the code d, where fractions take the room u and l and the ratio q / p: far enough from the next step, or from its own; 0 serves below always
+abbrev pub Fits : (p q u l d : ℕ) → Side → ℕ → Type 0
+Fits p q u l d high e = q * q ^ 6 * (step (d + 1) + u) ^ 6 ≤ p * p ^ 6 * e ^ 6
+Fits p q u l d low e = (e ≡ 0) ⊎ ((64 < d) × (q * q ^ 6 * e ^ 6 ≤ p * p ^ 6 * (step d - l) ^ 6))
 
-module _ {p q m bl bh x v r y : ℕ} (N : Near p q m bl bh x v r y) where
-  abbrev Upper : Fraction → Type 0
-  Upper g = Encloses high ((x + 1) * bh) m (bl * v) (m + 1) g
+abbrev pub Ending : (p q u l d : ℕ) → (Fraction → Type 0) → Type 0
+Ending p q u l d Inside = (s : Side) → Endpoint s (Fits p q u l d s) Inside
 
-  abbrev Lower : Fraction → Type 0
-  Lower g = Encloses low (x * bl) (m + 1) (bh * (v + 10000)) m g
+module _ {s g s' h y u l p q : ℕ} (R : Room s g s' h y u l) {n : Side → Pixel} {d : Side → ℕ} {r : Pixel} {i : Component} (N : Near s g s' h p q n d r i)
+    (enough : y ≤ weighted r) (pp : 0 < p) (pq : 0 < q) where
+  full : (v t : ℕ) → t ≤ v * r i → least y v t ≤ v * weighted r
+  full v t f = omega (arith, mul-le-mul-left v (N .part), mul-le-mul-left v enough)
 
   -- from a step that is not reached, and from one that is
-  scene-up : (i e : ℕ) → i < 955 → 0 < p → ¬ Reach (step (65 + i)) y r → q * q ^ 6 * (step (65 + i) + 30000) ^ 6 ≤ p * p ^ 6 * e ^ 6
-      → Scaled high e ((x + 1) * bh) m (bl * v) (m + 1)
-  scene-up i e hi hp h g =
-      let t = step (65 + i) in
-      mult-up C K p q ((x + 1) * bh) m (bl * v) (m + 1) (r + 3) (y - 15000) (t + 30000) e hp (N .result-high) (N .luminance-low)
-      (add-up C K 2730 30000 593 15000 3 t (593 * t - 15000 * 2730) r y (y - 15000) (step-pos (65 + i)) (lit≤ tt) (room-high i hi) (missed h) (omega arith) (N .part)
-      (le-trans least-high (mul-le-mul-left (2730 ^ 6 * K) (omega (arith, N .least))))) g
+  scene-up : (c e : ℕ) → Stepped c → ¬ Reach (step c) (weighted r) (r i) → q * q ^ 6 * (step c + u) ^ 6 ≤ p * p ^ 6 * e ^ 6
+      → Scaled high e (n high i) (d high) (weighted (n low)) (d low)
+  scene-up c e k m f =
+      let t = step c in
+      let Y = weighted r in
+      mult-up C K p q (n high i) (d high) (weighted (n low)) (d low) (r i + s) (Y - g) (t + u) e pp (N .result-high) (N .luminance-low)
+      (add-up (R .v) u g s C K t (least y (R .v) t) (r i) Y (Y - g) (step-pos c) (R .some) (R .high c k) (missed m) (omega arith) (full (R .v) t)
+      (le-trans (R .slope-high) (mul-le-mul-left (R .v ^ 6 * K) (omega (arith, enough))))) f
 
-  scene-lo : (i e : ℕ) → i < 955 → 0 < p → 0 < q → Reach (step (65 + i)) y r → q * q ^ 6 * e ^ 6 ≤ p * p ^ 6 * (step (65 + i) - 27000) ^ 6
-      → Scaled low e (x * bl) (m + 1) (bh * (v + 10000)) m
-  scene-lo i e hi hp hq h g =
-      let t = step (65 + i) in
-      mult-lo C K p q (x * bl) (m + 1) (bh * (v + 10000)) m (r - 2) (y + 30000) (t - 27000) e hp hq (N .result-low) (N .luminance-high)
-      (add-lo C K 2560 27000 593 30000 2 t r y (step-pos (65 + i)) (lit< tt) C-pos (room-low i hi) (h .power) (N .part)
-      (le-trans least-low (mul-le-mul-left (2560 ^ 6 * K) (omega (arith, N .least))))) g
+  scene-lo : (c e : ℕ) → Stepped c → Reach (step c) (weighted r) (r i) → q * q ^ 6 * e ^ 6 ≤ p * p ^ 6 * (step c - l) ^ 6
+      → Scaled low e (n low i) (d low) (weighted (n high)) (d high)
+  scene-lo c e k m f =
+      let t = step c in
+      let Y = weighted r in
+      mult-lo C K p q (n low i) (d low) (weighted (n high)) (d high) (r i - s') (Y + h) (t - l) e pp pq (N .result-low) (N .luminance-high)
+      (add-lo (R .v') l h s' C K t (least y (R .v') t) (r i) Y (step-pos c) C-pos (R .low c k) (m .power) (full (R .v') t)
+      (le-trans (R .slope-low) (mul-le-mul-left (R .v' ^ 6 * K) enough))) f
 
-  pub none : Lower (over 0 1 (zero-lt-suc 0))
-  none = record { e = 0; by-scene = omega arith; by-signal = signal-zero }
+  pub ending-scene : {D : ℕ} → Code (weighted r) (r i) D → D ≤ 1015 → (s : Side) (e : ℕ) → Fits p q u l D s e
+      → Scaled s e (n s i) (d s) (weighted (n (other s))) (d (other s))
+  ending-scene {D} c top high e f =
+      scene-up (D + 1) e (record { from = omega (arith, c .low); to = omega arith }) (c .last (D + 1) (omega arith) (omega arith)) f
+  ending-scene c top low e (inl z) = rw z (omega arith)
+  ending-scene {D} c top low e (inr f) = scene-lo D e (record { from = f .0; to = omega arith }) (c .reached (f .0)) (f .1)
 
--- where fractions and mapped numbers are in the ratio 1: 9/16 of a code either side
-module _ {m bl bh x v r y d : ℕ} (N : Near 1 1 m bl bh x v r y) (h : r ≤ thousand) (c : Code y r d) where
-  top : d ≤ 1015
-  top = code-range (N .part) h c
+-- ---- the bounds
+unfoldable pub none : Fraction
+none = over 0 1 (zero-lt-suc 0)
 
-  pub sixteenths-up : Upper N (sixteenths (16 * (d - 64) + 9))
-  sixteenths-up =
-      let n = d - 64 in
-      let e : 65 + n ≡ d + 1 = omega (arith, c .low) in
-      let i : n < 955 = omega (arith, top) in
-      record {
-        e = step (65 + n) + 30000;
-        by-scene =
-            scene-up N n (step (65 + n) + 30000) i (lit< tt)
-            (subst (λ j. ¬ Reach (step j) y r) (sym e) (c .last (d + 1) (omega arith) (omega (arith, top)))) (le-refl _);
-        by-signal = sixteenth-high n i;
-      }
+none-below : {F : ℕ → Type 0} {Inside : Fraction → Type 0} → F 0 → Inside none → Endpoint low F Inside
+unfolding none sumNum sumDen innerNum innerDen aboveC belowC slope
+none-below f h = record { e = 0; fits = f; g = none; signal = signal-test low (scene 0) (over 0 1 (zero-lt-suc 0)) tt; inside = h }
 
-  pub sixteenths-lo : 64 < d → Lower N (sixteenths (16 * (d - 65) + 7))
-  sixteenths-lo a =
-      let n = d - 65 in
-      let e : 65 + n ≡ d = omega arith in
-      let i : n < 955 = omega (arith, top) in
-      record {
-        e = step (65 + n) - 27000;
-        by-scene =
-            scene-lo N n (step (65 + n) - 27000) i (lit< tt) (lit< tt) (subst (λ j. Reach (step j) y r) (sym e) (c .reached a)) (le-refl _);
-        by-signal = sixteenth-low n i;
-      }
+-- 9/16 of a code either side, from scene lights whose signals were tested to be so
+pub nine-sixteenths : (p q u l : ℕ) (up down : ℕ → ℕ) → T (every (sixteenth high up) 0 stepTable) → T (every (sixteenth low down) 0 stepTable)
+    → ((t : ℕ) → q * q ^ 6 * (t + u) ^ 6 ≤ p * p ^ 6 * up t ^ 6) → ((t : ℕ) → q * q ^ 6 * down t ^ 6 ≤ p * p ^ 6 * (t - l) ^ 6)
+    → (d : ℕ) → 64 ≤ d → d ≤ 1015 → Ending p q u l d (AtMost 9 16 d)
+unfolding none
+nine-sixteenths p q u l up down above below fits-up fits-down d from to high =
+    record {
+      e = up (step (d + 1));
+      fits = fits-up (step (d + 1));
+      g = sixteenths (16 * (d + 1 - 65) + 9);
+      signal = sixteenth-signal high up above (d + 1) (record { from = omega arith; to = omega arith });
+      inside = omega arith;
+    }
+nine-sixteenths p q u l up down above below fits-up fits-down d from to low = go (decLe d 64)
+  where
+    go : Dec (d ≤ 64) → Endpoint low (Fits p q u l d low) (AtMost 9 16 d)
+    go (yes k) = none-below (inl refl) (omega arith)
+    go (no k) =
+        record {
+          e = down (step d);
+          fits = inr (omega arith, fits-down (step d));
+          g = sixteenths (16 * (d - 65) + 7);
+          signal = sixteenth-signal low down below d (record { from = omega arith; to = omega arith });
+          inside = omega arith;
+        }
 
--- in the ratio 361 / 360: one and a half codes either side
-module _ {m bl bh x v r y d : ℕ} (N : Near 360 361 m bl bh x v r y) (h : r ≤ thousand) (c : Code y r d) where
-  top-bent : d ≤ 1015
-  top-bent = code-range (N .part) h c
+-- one and a half codes either side, where a ratio and the room fit between neighbouring steps
+pub less-than-two : (p q u l : ℕ) → T (everyPair (ratio p q u l) stepTable) → (d : ℕ) → 64 ≤ d → d ≤ 1015 → Ending p q u l d (LessThan 2 d)
+unfolding none
+less-than-two p q u l test d from to high =
+    let next : d + 1 + 1 ≡ d + 2 = omega arith in
+    record {
+      e = step (d + 2) - 1;
+      fits =
+          subst (λ c. q * q ^ 6 * (step (d + 1) + u) ^ 6 ≤ p * p ^ 6 * (step c - 1) ^ 6) next
+          (between-steps p q u l test (d + 1) (omega arith) (omega arith) .0);
+      g = thresholdSignal (d + 2);
+      signal = step-signal-high (d + 2) (omega arith) (omega arith);
+      inside = omega arith;
+    }
+less-than-two p q u l test d from to low = go (decLe d 65)
+  where
+    between : 65 < d → q * q ^ 6 * step (d - 1) ^ 6 ≤ p * p ^ 6 * (step d - l) ^ 6
+    between k =
+        let next : d - 1 + 1 ≡ d = omega arith in
+        subst (λ c. q * q ^ 6 * step (d - 1) ^ 6 ≤ p * p ^ 6 * (step c - l) ^ 6) next (between-steps p q u l test (d - 1) (omega arith) (omega arith) .1)
 
-  pub halves-up : Upper N (thresholdSignal (d + 2))
-  halves-up =
-      let n = d - 64 in
-      let e : 65 + n ≡ d + 1 = omega (arith, c .low) in
-      let f : 65 + suc n ≡ d + 2 = omega (arith, c .low) in
-      let i : suc n < 955 = omega (arith, top-bent) in
-      record {
-        e = step (d + 2) - 1;
-        by-scene =
-            subst (λ j. Scaled high (step j - 1) ((x + 1) * bh) m (bl * v) (m + 1)) f
-            (scene-up N n (step (65 + suc n) - 1) (omega arith) (lit< tt)
-            (subst (λ j. ¬ Reach (step j) y r) (sym e) (c .last (d + 1) (omega arith) (omega (arith, top-bent)))) (step-ratio n i .0));
-        by-signal = step-signal-high (d + 2) (omega (arith, c .low)) (omega (arith, top-bent));
-      }
-
-  pub halves-lo : 65 < d → Lower N (thresholdSignal (d - 1))
-  halves-lo a =
-      let n = d - 66 in
-      let e : 65 + suc n ≡ d = omega arith in
-      let f : 65 + n ≡ d - 1 = omega arith in
-      let i : suc n < 955 = omega (arith, top-bent) in
-      record {
-        e = step (d - 1);
-        by-scene =
-            subst (λ j. Scaled low (step j) (x * bl) (m + 1) (bh * (v + 10000)) m) f
-            (scene-lo N (suc n) (step (65 + n)) i (lit< tt) (lit< tt) (subst (λ j. Reach (step j) y r) (sym e) (c .reached (omega arith))) (step-ratio n i .1));
-        by-signal = step-signal-low (d - 1) (omega arith) (omega (arith, top-bent));
-      }
+    go : Dec (d ≤ 65) → Endpoint low (Fits p q u l d low) (LessThan 2 d)
+    go (yes k) = none-below (inl refl) (omega arith)
+    go (no k) =
+        record {
+          e = step (d - 1);
+          fits = inr (omega arith, between (omega arith));
+          g = thresholdSignal (d - 1);
+          signal = step-signal-low (d - 1) (omega arith) (omega arith);
+          inside = omega arith;
+        }

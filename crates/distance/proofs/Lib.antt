@@ -1,3 +1,4 @@
+pub mod FoundNumbers
 pub mod SceneBounds
 pub mod AdditiveLaws
 pub mod RatioLaws

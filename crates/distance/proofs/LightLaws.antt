@@ -1,56 +1,64 @@
--- Entries of the light table as lower and upper fractions of lights, and the light of each code among them.
-use mathlib.Core.Path.{_≡_, refl, subst}
+-- Entries of the light table as lower and upper fractions of lights, by the way in which they are rounded, and the light of each code among them.
+use mathlib.Core.Path.{_≡_, refl}
 use mathlib.Core.Logic.{inl, inr}
-use Prim.Native.Nat.{ℕ, _+_, _-_, _*_, _≤_, _<_}
+use Prim.Native.Nat.{ℕ, _-_, _*_, _≤_, _<_}
+use native.Mathlib.Nat.{zero-lt-suc}
 use native.Mathlib.Numerals.{add-one}
 use native.Mathlib.Decide.{decLe}
 use native.Mathlib.Omega.{arith}
-use Rattle.laws.specs.Fraction.{Fraction, whole, _≼_}
-use Rattle.laws.specs.Side.{Side, low, high}
+use lib.Dec.{lit≤}
+use Rattle.laws.specs.Fraction.{Fraction, over, _≼_}
+use Rattle.laws.specs.Side.{Side, low, high, other}
+use Rattle.laws.proofs.FractionLaws.{≼-trans, ≼-zero}
 use Rattle.pq.specs.Pq.{indexSignal}
 use Rattle.pq.specs.LightTable.{lightEntry}
-use Rattle.pq.proofs.PqLaws.{at-least-of-above, at-most-signal, at-least-signal, at-most-light}
+use Rattle.pq.proofs.PqLaws.{at-least-of-above, at-most-signal, at-least-signal, at-most-light, at-least-light}
 use Rattle.pq.proofs.EntryLaws.{entry-at-most, next-above, entry-first}
-use Rattle.position.specs.Position.{codeRead, codeLight}
+use Rattle.position.specs.Position.{codeRead, codeIndex, codeLight}
 use Rattle.exact.specs.ExactValue.{signal, Value, Light}
-use Rattle.distance.proofs.PixelDistance.{around}
+use Rattle.exact.proofs.FinerLaws.{same-value}
+use Rattle.distance.proofs.NearLaws.{Rounding, end}
 
--- an entry is a lower fraction of the light of its signal and of any larger one, also cut to less
-pub light-low : {x : Fraction} (k l : ℕ) → 0 < k → k ≤ 3504 → indexSignal k ≼ x → l ≤ lightEntry k → Light low x (whole l)
+-- rounded down: an entry's light lies from its units to one more
+abbrev pub entries : Rounding
+entries = record { parts = 1; below = 0; above = 1; upward = lit≤ tt; narrow = lit≤ tt }
+
+-- u units on the side s
+abbrev pub around : Side → ℕ → Fraction
+around s u = over (end entries s u) (entries .parts) (zero-lt-suc 0)
+
+-- what is below an entry is a lower fraction of the light of its signal and of any larger one
+pub light-low : {x : Fraction} (k : ℕ) (l : Fraction) → 0 < k → k ≤ 3504 → indexSignal k ≼ x → l ≼ around low (lightEntry k) → Light low x l
 unfolding Light Value
-light-low k l p h g c =
-    inr (at-most-light {l = whole (lightEntry k)} {k = whole l} (at-most-signal (entry-at-most k p h) g) (record { cross = omega arith }))
+light-low k l p h g c = inr (at-most-light (at-most-signal (entry-at-most k p h) g) (≼-trans c (record { cross = omega arith })))
 
--- and the unit after it an upper fraction of the light of its signal and of any smaller one
-pub light-high : {x : Fraction} (k : ℕ) → k ≤ 3504 → x ≼ indexSignal k → Light high x (whole (lightEntry k + 1))
+-- and what is above it an upper fraction of the light of its signal and of any smaller one
+pub light-high : {x : Fraction} (k : ℕ) (l : Fraction) → k ≤ 3504 → x ≼ indexSignal k → around high (lightEntry k) ≼ l → Light high x l
 unfolding Light Value
-light-high k h g = rw (add-one (lightEntry k)) (inr (at-least-signal (at-least-of-above (next-above k h)) g))
+light-high k l h g c =
+    inr (at-least-light (at-least-signal (at-least-of-above (next-above k h)) g) (≼-trans (record { cross = omega (arith, add-one (lightEntry k)) }) c))
 
--- the index of a code
-abbrev pub codeIndex : ℕ → ℕ
-codeIndex D = 4 * (codeRead D - 64)
+-- the light of a signal is that of every fraction equal to it
+pub same-light : (s : Side) (x y l : Fraction) → x .num * y .den ≡ y .num * x .den → Light s x l → Light s y l
+unfolding Light
+same-light s x y l e (inl a) = inl (≼-zero {p = y} {q = x} (record { cross = omega arith }) (a .0), a .1)
+same-light s x y l e (inr a) = inr (same-value (other s) l x y e a)
 
-pub index-le : (D : ℕ) → codeIndex D ≤ 3504
-index-le D = omega arith
-
+-- ---- codes
 pub code-entry : (D : ℕ) → codeLight D ≡ lightEntry (codeIndex D)
 unfolding codeLight
 code-entry D = refl
 
-pub code-low : (D l : ℕ) → 0 < signal D .num → l ≤ codeLight D → Light low (signal D) (whole l)
-code-low D l h c =
-    light-low (codeIndex D) l (omega arith) (index-le D) (record { cross = omega arith }) (subst (λ n. l ≤ n) (code-entry D) c)
-
 -- black has no light
-pub unlit : (D : ℕ) → signal D .num ≡ 0 → codeLight D ≡ 0
+pub unlit : (D : ℕ) → codeRead D - 64 ≡ 0 → codeLight D ≡ 0
 unlit D e = let z : codeIndex D ≡ 0 = omega arith in rw (code-entry D, z) entry-first
 
--- the light of a code lies from its entry to the unit after it
-pub code-light : (s : Side) (D : ℕ) → Light s (signal D) (whole (around s (codeLight D)))
+-- the light of a code lies around its entry
+pub code-light : (s : Side) (D : ℕ) → Light s (signal D) (around s (codeLight D))
 unfolding Light
-code-light high D = rw (code-entry D) (light-high (codeIndex D) (index-le D) (record { cross = omega arith }))
-code-light low D = go (decLe 1 (signal D .num))
+code-light high D = light-high (codeIndex D) _ (omega arith) (record { cross = omega arith }) (record { cross = omega (arith, code-entry D) })
+code-light low D = go (decLe 1 (codeRead D - 64))
   where
-    go : Dec (1 ≤ signal D .num) → Light low (signal D) (whole (codeLight D))
-    go (yes h) = code-low D (codeLight D) h (omega arith)
-    go (no h) = let e : signal D .num ≡ 0 = omega arith in inl (e, unlit D e)
+    go : Dec (1 ≤ codeRead D - 64) → Light low (signal D) (around low (codeLight D))
+    go (yes h) = light-low (codeIndex D) _ (omega arith) (omega arith) (record { cross = omega arith }) (record { cross = omega (arith, code-entry D) })
+    go (no h) = let e : codeRead D - 64 ≡ 0 = omega arith in inl (e, omega (arith, unlit D e))

@@ -1,116 +1,167 @@
--- A pixel's fractions lie near its mapped numbers: a ratio q / p and a few units apart. All lights in units.
-use mathlib.Core.Path.{_≡_, ap}
-use mathlib.Core.Logic.{_⊎_, inl, inr}
-use Prim.Native.Nat.{ℕ, _+_, _-_, _*_, _/_, _≤_, _<_}
-use native.Mathlib.Nat.{le-trans, mul-le-mul-left, mul-le-mul-right, le-of-mul-le-mul-right, lt-of-mul-lt-mul-right, sub-eq-zero-of-le}
+-- A pixel's fractions lie near its mapped numbers: a ratio q / p and a few units apart. From lights that are enclosed within a unit, rounded down or
+-- to the nearest. All lights in units.
+use mathlib.Core.Path.{_≡_, ap, subst}
+use Prim.Native.Nat.{ℕ, _+_, _-_, _*_, _≤_, _<_}
+use native.Mathlib.Nat.{le-trans, mul-le-mul, mul-le-mul-left, mul-le-mul-right, le-of-mul-le-mul-right, lt-of-mul-lt-mul-right, sub-eq-zero-of-le}
 use native.Mathlib.Decide.{decLe}
 use native.Mathlib.Omega.{arith}
-use Rattle.laws.proofs.DivisionLaws.{floor-le, lt-floor}
+use lib.Dec.{lit≤}
+use Rattle.laws.specs.Side.{Side, low, high, other}
 use Rattle.quantity.specs.Component.{Component, red, green, blue, Pixel, weighted}
+use Rattle.pixel.proofs.PixelLaws.{Floor, Mapped}
+use Rattle.distance.proofs.FoundNumbers.{leastLight, leastLuminance, resultAbove, resultBelow, luminanceBelow, luminanceAbove}
 
--- r is x * n / m, rounded down
-pub record Floor (x n m r : ℕ) : Type 0 where
-  pub below : r * m ≤ x * n
-  pub above : x * n < (r + 1) * m
+-- fractions n / d of a pixel's results, near the mapped r: those of component i within s and s', those of the luminance within g and h
+pub record Near (s g s' h p q : ℕ) (n : Side → Pixel) (d : Side → ℕ) (r : Pixel) (i : Component) : Type 0 where
+  pub result-high : p * n high i ≤ q * (d high * (r i + s))
+  pub luminance-low : p * ((weighted r - g) * d low) ≤ q * weighted (n low)
+  pub result-low : p * ((r i - s') * d low) ≤ q * n low i
+  pub luminance-high : p * weighted (n high) ≤ q * (d high * (weighted r + h))
+  pub part : 593 * r i ≤ weighted r
 
-pub floor : (x n m : ℕ) → 0 < m → Floor x n m (x * n / m)
-floor x n m h = record { below = floor-le (x * n) m; above = lt-floor (x * n) m h }
+-- how a light of u units is enclosed, in parts of a unit: from so many below u to so many above, and no wider than a unit
+pub record Rounding : Type 0 where
+  pub parts : ℕ
+  pub below : ℕ
+  pub above : ℕ
+  pub upward : below ≤ above
+  pub narrow : below + above ≤ parts
 
--- whole units bl and bh enclose the bent light within the ratio and a unit of n, what the brightest light m is mapped to; 81 is the light of the lowest entry
-pub record BentWithin (p q m n bl bh : ℕ) : Type 0 where
-  pub lower : p * n ≤ q * bl
-  pub upper : p * bh ≤ q * (n + 1)
+abbrev pub end : Rounding → Side → ℕ → ℕ
+end R low u = R .parts * u - R .below
+end R high u = R .parts * u + R .above
+
+-- parts b enclose the bent light within the ratio of what encloses n, to which the brightest light m is mapped
+pub record BentWithin (R : Rounding) (p q m n : ℕ) (b : Side → ℕ) : Type 0 where
+  pub lower : p * end R low n ≤ q * b low
+  pub upper : p * b high ≤ q * end R high n
   pub bent : n ≤ m
-  pub seen : 81 ≤ n
+  pub seen : leastLight ≤ n
 
--- a component of light x mapped to r, where the three lights weigh v and the mapped three y: upper and lower fractions of its result and of
--- the luminance, from lights enclosed between x and x + 1
-pub record Near (p q m bl bh x v r y : ℕ) : Type 0 where
-  pub result-high : p * ((x + 1) * bh) ≤ q * (m * (r + 3))
-  pub luminance-low : p * ((y - 15000) * (m + 1)) ≤ q * (bl * v)
-  pub result-low : p * ((r - 2) * (m + 1)) ≤ q * (x * bl)
-  pub luminance-high : p * (bh * (v + 10000)) ≤ q * (m * (y + 30000))
-  pub part : 593 * r ≤ y
-  pub least : 593 * 81 ≤ y
+-- ---- a weighted sum v of lights mapped to y, W the weights: 1 for a result, 10,000 for the luminance. R has z parts to a unit, a below and b above;
+-- l and k are lower ends of m and n, o and u the sums of lower and of upper ends
+module _ (R : Rounding) (p q m n W v y : ℕ) (three : 3 ≤ m) (below-m : n ≤ m) (most : y ≤ W * m) where
+  abbrev z : ℕ
+  z = R .parts
 
-result-up : (p q m n bh x r : ℕ) → p * bh ≤ q * (n + 1) → n ≤ m → x ≤ m → Floor x n m r → p * ((x + 1) * bh) ≤ q * (m * (r + 3))
-result-up p q m n bh x r h a b f = le-trans (omega (arith, mul-le-mul-left (x + 1) h)) (mul-le-mul-left q (room (f .above)))
-  where
-    room : x * n < (r + 1) * m → (x + 1) * (n + 1) ≤ m * (r + 3)
-    room g = omega arith
+  abbrev a : ℕ
+  a = R .below
 
--- y less g, times m + 1, is no more than y times m
-spare : (y g m z : ℕ) → y ≤ g * m → y * m ≤ z → (y - g) * (m + 1) ≤ z
-spare y g m z a h = go (decLe y g)
-  where
-    less : (e : ℕ) → g + e ≡ y → e * (m + 1) ≤ z
-    less e q = omega (arith, ap (λ x. x * m) q)
+  abbrev b : ℕ
+  b = R .above
 
-    go : Dec (y ≤ g) → (y - g) * (m + 1) ≤ z
-    go (yes p) = rw (sub-eq-zero-of-le p) (omega arith)
-    go (no p) = less (y - g) (omega arith)
+  within : b ≤ z
+  within = omega (arith, R .narrow)
 
-result-lo : (p q m n bl x r : ℕ) → p * n ≤ q * bl → r ≤ m → Floor x n m r → p * ((r - 2) * (m + 1)) ≤ q * (x * bl)
-result-lo p q m n bl x r h b f = le-trans (mul-le-mul-left p (spare r 2 m (x * n) (omega arith) (f .below))) (omega (arith, mul-le-mul-left x h))
+  sum-up : (t l u : ℕ) → p * t ≤ q * (z * n + b) → v ≤ W * m → z * m ≤ l + a → u ≤ z * v + W * b → v * n + W ≤ (y + W) * m
+      → p * (u * t) ≤ q * (z * l * (y + 3 * W))
+  sum-up t l u h hv hl hu f =
+      le-trans (omega (arith, mul-le-mul-left u h)) (mul-le-mul-left q (le-trans (mul-le-mul-right (z * n + b) hu) (le-trans spread (room (v * n) f))))
+    where
+      spread : (z * v + W * b) * (z * n + b) ≤ z * z * (v * n) + 2 * (W * z * b * m) + W * b * b
+      spread = omega (arith, mul-le-mul-left (z * b) hv, mul-le-mul-left (W * z * b) below-m)
 
-luminance-lo : (p q m n bl v y : ℕ) → p * n ≤ q * bl → y * m ≤ v * n → y ≤ 10000 * m → p * ((y - 15000) * (m + 1)) ≤ q * (bl * v)
-luminance-lo p q m n bl v y h f a = le-trans (mul-le-mul-left p (spare y 15000 m (v * n) (omega arith) f)) (omega (arith, mul-le-mul-left v h))
+      room : (c : ℕ) → c + W ≤ (y + W) * m → z * z * c + 2 * (W * z * b * m) + W * b * b ≤ z * l * (y + 3 * W)
+      room c g = omega (
+        arith,
+        mul-le-mul-left (z * z) g,
+        mul-le-mul-left (z * (y + 3 * W)) hl,
+        mul-le-mul-left (z * a) most,
+        mul-le-mul-left (W * z * a) three,
+        mul-le-mul-left (W * z * m) (R .narrow),
+        mul-le-mul-left W (mul-le-mul within within),
+      )
 
-luminance-up : (p q m n bh v y : ℕ) → p * bh ≤ q * (n + 1) → n ≤ m → v ≤ 10000 * m → v * n + 10000 ≤ (y + 10000) * m → p * (bh * (v + 10000)) ≤ q * (m * (y + 30000))
-luminance-up p q m n bh v y h a b f = le-trans (omega (arith, mul-le-mul-left (v + 10000) h)) (mul-le-mul-left q room)
-  where
-    room : (n + 1) * (v + 10000) ≤ m * (y + 30000)
-    room = omega arith
+  sum-lo : (g t k o : ℕ) → 3 * W ≤ 2 * g → p * k ≤ q * t → z * n ≤ k + a → k ≤ z * m → z * v ≤ o + W * a → o ≤ W * (z * m) → y * m ≤ v * n
+      → p * ((y - g) * (z * (z * m + b))) ≤ q * (o * t)
+  sum-lo g t k o hg h hn hk hv ho f = le-trans (mul-le-mul-left p (go (decLe y g))) (omega (arith, mul-le-mul-left o h))
+    where
+      spread : z * z * (y * m) ≤ o * k + 2 * (W * a * z * m) + W * a * a
+      spread =
+          le-trans (omega (arith, mul-le-mul-left (z * z) f)) (le-trans (mul-le-mul hv hn) (omega (arith, mul-le-mul-left a ho, mul-le-mul-left (W * a) hk)))
 
--- a mapped component is no more than the bent light, and the brightest is the bent light
+      room : (c e : ℕ) → e + g ≤ W * m → z * z * ((e + g) * m) ≤ c + 2 * (W * a * z * m) + W * a * a → e * (z * (z * m + b)) ≤ c
+      room c e le s = omega (
+        arith,
+        mul-le-mul-left (z * b) le,
+        mul-le-mul-left (z * z * m) hg,
+        mul-le-mul-left (z * b) hg,
+        mul-le-mul-left (W * z * m) (R .narrow),
+        mul-le-mul-left (W * z * m) (R .upward),
+        mul-le-mul-left W (mul-le-mul (le-trans (R .upward) within) (R .upward)),
+      )
+
+      go : Dec (y ≤ g) → (y - g) * (z * (z * m + b)) ≤ o * k
+      go (yes h) = rw (sub-eq-zero-of-le h) (omega arith)
+      go (no h) =
+          let e : y ≡ y - g + g = omega arith in
+          room (o * k) (y - g) (omega arith) (subst (λ x. z * z * (x * m) ≤ o * k + 2 * (W * a * z * m) + W * a * a) e spread)
+
+-- ---- a mapped component is no more than the bent light, and the brightest is the bent light
 pub mapped-le : {x n m r : ℕ} → 0 < m → x ≤ m → Floor x n m r → r ≤ n
 mapped-le {x} {n} {m} {r} h a f = le-of-mul-le-mul-right {k = m} (omega (arith, f .below, mul-le-mul-right n a)) h
 
 pub brightest-ge : {x n m r : ℕ} → 0 < m → x ≡ m → Floor x n m r → n ≤ r
 brightest-ge {x} {n} {m} {r} h e f = let k : n < r + 1 = lt-of-mul-lt-mul-right m (omega (arith, f .above, ap (λ t. t * n) e)) in omega arith
 
--- a pixel of lights x, the brightest of them m, and of mapped components r
-pub record Mapped (m n : ℕ) (x r : Pixel) : Type 0 where
-  pub inside : (i : Component) → x i ≤ m
-  pub brightest : (x red ≡ m) ⊎ ((x green ≡ m) ⊎ (x blue ≡ m))
-  pub floors : (i : Component) → Floor (x i) n m (r i)
+-- ---- the results of a pixel from lights x enclosed so
+abbrev pub numerators : Rounding → Pixel → (Side → ℕ) → Side → Pixel
+numerators R x b s i = end R s (x i) * b s
 
-module _ {p q m n bl bh : ℕ} {x r : Pixel} (B : BentWithin p q m n bl bh) (P : Mapped m n x r) where
+abbrev pub denominators : Rounding → ℕ → Side → ℕ
+denominators R m s = R .parts * end R (other s) m
+
+module _ (R : Rounding) {p q m n : ℕ} {b : Side → ℕ} {x r : Pixel} (B : BentWithin R p q m n b) (P : Mapped m n x r) where
   pub brightest-pos : 0 < m
   brightest-pos = omega (arith, B .bent, B .seen)
 
   under : (i : Component) → r i ≤ n
   under i = mapped-le brightest-pos (P .inside i) (P .floors i)
 
-  least : 593 * n ≤ weighted r
-  least = go (P .brightest)
-    where
-      go : (x red ≡ m) ⊎ ((x green ≡ m) ⊎ (x blue ≡ m)) → 593 * n ≤ weighted r
-      go (inl e) = omega (arith, brightest-ge brightest-pos e (P .floors red))
-      go (inr (inl e)) = omega (arith, brightest-ge brightest-pos e (P .floors green))
-      go (inr (inr e)) = omega (arith, brightest-ge brightest-pos e (P .floors blue))
-
   own : (i : Component) → 593 * r i ≤ weighted r
   own red = omega arith
   own green = omega arith
   own blue = omega arith
 
-  pub near : (i : Component) → Near p q m bl bh (x i) (weighted x) (r i) (weighted r)
+  pub least : leastLuminance ≤ weighted r
+  least = let top = P .brightest in omega (arith, own (top .0), brightest-ge brightest-pos (top .1) (P .floors (top .0)), B .seen)
+
+  from : (u : ℕ) → R .parts * u ≤ end R low u + R .below
+  from u = omega arith
+
+  to : (u : ℕ) → u ≤ m → end R low u ≤ R .parts * m
+  to u h = omega (arith, mul-le-mul-left (R .parts) h)
+
+  ends : Side → ℕ
+  ends s = weighted (λ j. end R s (x j))
+
+  sum : (s : Side) → ends s * b s ≡ weighted (numerators R x b s)
+  unfolding ends
+  sum low = omega arith
+  sum high = omega arith
+
+  pub near : (i : Component) → Near resultAbove luminanceBelow resultBelow luminanceAbove p q (numerators R x b) (denominators R m) r i
+  unfolding ends
   near i =
-      let hr = under red in
-      let hg = under green in
-      let hb = under blue in
-      let fr = P .floors red in
-      let fg = P .floors green in
-      let fb = P .floors blue in
+      let three : 3 ≤ m = omega (arith, B .bent, B .seen) in
+      let light : weighted r ≤ 10000 * m = omega (arith, under red, under green, under blue, B .bent) in
+      let heavy : weighted x ≤ 10000 * m = omega (arith, P .inside red, P .inside green, P .inside blue) in
+      let lower : R .parts * weighted x ≤ ends low + 10000 * R .below = omega (arith, from (x red), from (x green), from (x blue)) in
+      let inside : (j : Component) → end R low (x j) ≤ R .parts * m = λ j. to (x j) (P .inside j) in
+      let f : (j : Component) → Floor (x j) n m (r j) = P .floors in
+      let one = sum-up R p q m n 1 (x i) (r i) three (B .bent) (omega (arith, under i, B .bent)) in
       record {
-        result-high = result-up p q m n bh (x i) (r i) (B .upper) (B .bent) (P .inside i) (P .floors i);
+        result-high = one (b high) (end R low m) (end R high (x i)) (B .upper) (omega (arith, P .inside i)) (from m) (omega arith) (omega (arith, f i .above));
         luminance-low =
-            luminance-lo p q m n bl (weighted x) (weighted r) (B .lower) (omega (arith, fr .below, fg .below, fb .below)) (omega (arith, B .bent));
-        result-low = result-lo p q m n bl (x i) (r i) (B .lower) (omega (arith, B .bent, under i)) (P .floors i);
+            subst (λ t. p * ((weighted r - luminanceBelow) * denominators R m low) ≤ q * t) (sum low)
+            (sum-lo R p q m n 10000 (weighted x) (weighted r) three (B .bent) light luminanceBelow (b low) (end R low n) (ends low) (lit≤ tt) (B .lower)
+            (from n) (to n (B .bent)) lower (omega (arith, inside red, inside green, inside blue)) (omega (arith, f red .below, f green .below, f blue .below)));
+        result-low =
+            sum-lo R p q m n 1 (x i) (r i) three (B .bent) (omega (arith, under i, B .bent)) resultBelow (b low) (end R low n) (end R low (x i)) (lit≤ tt)
+            (B .lower) (from n) (to n (B .bent)) (omega (arith, from (x i))) (omega (arith, inside i)) (f i .below);
         luminance-high =
-            luminance-up p q m n bh (weighted x) (weighted r) (B .upper) (B .bent) (omega (arith, P .inside red, P .inside green, P .inside blue))
-            (omega (arith, fr .above, fg .above, fb .above));
+            subst (λ t. p * t ≤ q * (denominators R m high * (weighted r + luminanceAbove))) (sum high)
+            (sum-up R p q m n 10000 (weighted x) (weighted r) three (B .bent) light (b high) (end R low m) (ends high) (B .upper) heavy (from m) (omega arith)
+            (omega (arith, f red .above, f green .above, f blue .above)));
         part = own i;
-        least = omega (arith, least, B .seen);
       }

@@ -1,6 +1,6 @@
 -- Scene light enclosed on either side, from the comparison without its common factor.
 use mathlib.Core.Path.{_≡_, sym, subst, subst₂}
-use Prim.Native.Nat.{ℕ, _+_, _*_, _^_, _≤_, _<_}
+use Prim.Native.Nat.{ℕ, _*_, _^_, _≤_, _<_}
 use native.Mathlib.Nat.{mul-one, mul-le-mul-left}
 use native.Mathlib.Omega.{arith}
 use Rattle.laws.specs.Fraction.{over, _·_, _↑_}

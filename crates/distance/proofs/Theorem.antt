@@ -1,105 +1,145 @@
 -- Demand 3, whole: every peak from 1 to 10,000 and every pixel of codes from 4 to 1,019, about the definitions of mapped components and HLG codes.
-use mathlib.Core.Path.{_≡_, _∙_, subst}
+use mathlib.Core.Path.{_≡_, _∙_, sym, subst}
 use mathlib.Core.Logic.{_⊎_, inl, inr}
 use Prim.Native.Nat.{ℕ, _+_, _-_, _*_, _≤_, _<_}
-use native.Mathlib.Nat.{lt-of-not-le}
+use native.Mathlib.Nat.{le-refl, le-trans, lt-of-not-le}
 use native.Mathlib.Decide.{decLe}
 use native.Mathlib.Omega.{arith}
+use lib.Dec.{lit<}
+use Rattle.laws.specs.Fraction.{Fraction, over}
+use Rattle.laws.specs.Side.{Side, low, high, other, At}
+use Rattle.laws.proofs.SideLaws.{at-refl}
 use Rattle.quantity.specs.Units.{units, thousand}
 use Rattle.quantity.specs.Component.{Component, Pixel, brightest}
-use Rattle.position.specs.Position.{codeLight, positionOf}
+use Rattle.pq.specs.Pq.{positionSignal}
+use Rattle.position.specs.Position.{codeRead, codeIndex, codePosition, lightAt, positionOf}
+use Rattle.position.proofs.LightLaws.{code-position}
 use Rattle.position.proofs.PeakLaws.{thousand-position}
-use Rattle.eetf.specs.Curve.{mappedLight}
-use Rattle.pixel.specs.Conversion.{brightestLight, bent, mapped, code}
-use Rattle.pixel.proofs.PixelLaws.{one-of, each-le, light-of-brightest, place, bentTo, bent-of-brightest, bent-le, mapped-dark, mapped-at-most}
+use Rattle.eetf.specs.Curve.{bentLight}
+use Rattle.eetf.proofs.CurveLaws.{bent-le-thousand}
+use Rattle.pixel.specs.Conversion.{mappedOf, codeOf, lights, brightestPosition, code}
+use Rattle.pixel.proofs.PixelLaws.{Mapped, ratio-kept, bent-of-light, light-of-brightest, brightest-lit, code-dark, mapped-at-most}
 use Rattle.pixel.proofs.OrderLaws.{ordered, greys}
-use Rattle.exact.specs.ExactValue.{signal}
-use Rattle.distance.specs.Demand.{LessThanTwo, NineSixteenths, Enclosed, BelowKnee, Voted, Demand}
-use Rattle.distance.proofs.NearLaws.{floor, Mapped}
-use Rattle.distance.proofs.LightLaws.{unlit, code-light}
-use Rattle.distance.proofs.PixelDistance.{Lights, within-sixteenths, within-two, nearer-near, black}
-use Rattle.distance.proofs.BentLightLaws.{Enclosure, seen-light, up-to-thousand, below-knee, on-curve}
+use Rattle.exact.specs.ExactValue.{Given, ofCodes, signal, Result}
+use Rattle.distance.specs.Demand.{LessThan, AtMost, Enclosed, BelowKnee, Voted, Demand}
+use Rattle.distance.proofs.FoundNumbers.{ratioUnder, ratioOver, roomAbove, roomBelow}
+use Rattle.distance.proofs.NearLaws.{end, near, least, mapped-le, numerators, denominators}
+use Rattle.distance.proofs.StepTests.{sixteenths-low, sixteenths-high, ratios}
+use Rattle.distance.proofs.StepLaws.{room}
+use Rattle.distance.proofs.CodeDistance.{Ending, nine-sixteenths, less-than-two, none}
+use Rattle.distance.proofs.PixelDistance.{within, wider, black}
+use Rattle.distance.proofs.LightLaws.{entries, around, same-light, unlit, code-light}
+use Rattle.distance.proofs.BentLightLaws.{Indexed, Enclosure, lit-light, own-light, left, on-curve}
 
--- the mapped components are floors of the lights' ratio
-abbrev lights : Pixel → Pixel
-lights p i = codeLight (p i)
+-- ---- a pixel whose brightest light is that of an index, m being its position
+module _ {G : Given} {x : Pixel} {m : ℕ} (I : Indexed G x m) (peak : ℕ) (most : peak ≤ 10000) where
+  some : 0 < lightAt m
+  some = omega (arith, lit-light I peak most)
 
-floors : (peak : ℕ) (p : Pixel) → 0 < brightestLight p → Mapped (brightestLight p) (bent peak p) (lights p) (mapped peak p)
-unfolding mapped mappedLight brightestLight
-floors peak p h =
-    record { inside = each-le (lights p); brightest = one-of (lights p); floors = λ i. floor (codeLight (p i)) (bent peak p) (brightest (lights p)) h }
+  maps : Mapped (lightAt m) (bentLight peak (lightAt m) m) x (mappedOf peak x m)
+  maps =
+      subst (λ M. Mapped M (bentLight peak (lightAt m) m) x (mappedOf peak x m)) (I .lit)
+      (subst (λ n. Mapped (brightest x) n x (mappedOf peak x m)) (bent-of-light peak x m (I .lit)) (ratio-kept peak x m (omega (arith, I .lit, some))))
 
--- ---- the distances
-module _ (peak : ℕ) (p : Pixel) (most : peak ≤ 10000) where
-  D : ℕ
-  D = brightest p
+  capped : (i : Component) → mappedOf peak x m i ≤ thousand
+  capped i = le-trans (mapped-le some (maps .inside i) (maps .floors i)) (bent-le-thousand peak m)
 
-  -- from an enclosure of the bent light to the pixel's lights
-  pixel-lights : {q r : ℕ} (E : Enclosure q r peak D) → 0 < signal D .num → 0 < codeLight D → Lights peak p (lights p) (codeLight D) (E .b)
-  unfolding D
-  pixel-lights E seen h =
-      record { seen = seen; own = λ s i. code-light s (p i); most = λ s. code-light s D; bent = E .lights; some = h }
+  -- from an enclosure of the bent light to the results, and to the bound that the ratio allows
+  module _ {p q : ℕ} (E : Enclosure p q G peak m) where
+    end-pos : (s : Side) → 0 < end entries s (lightAt m)
+    end-pos low = omega (arith, lit-light I peak most)
+    end-pos high = omega arith
 
-  maps : 0 < codeLight D → Mapped (codeLight D) (bentTo peak D) (lights p) (mapped peak p)
-  unfolding D
-  maps h =
-      subst (λ m. Mapped m (bentTo peak (brightest p)) (lights p) (mapped peak p)) (light-of-brightest p)
-      (subst (λ n. Mapped (brightestLight p) n (lights p) (mapped peak p)) (bent-of-brightest peak p)
-      (floors peak p (omega (arith, light-of-brightest p))))
+    divisor : (s : Side) → 0 < denominators entries (lightAt m) s
+    divisor s = omega (arith, end-pos (other s))
 
-  lit : 0 < signal D .num → 0 < codeLight D
-  lit h = omega (arith, seen-light D h)
+    result : (s : Side) (i : Component) → Result G s peak i (over (numerators entries x (E .b) s i) (denominators entries (lightAt m) s) (divisor s))
+    result s i =
+        record {
+          own = around s (x i);
+          own-light = I .own s i;
+          bent = over (E .b s) (entries .parts) (around s 0 .pos);
+          bent-light = E .lights s;
+          most = around (other s) (lightAt m);
+          most-light = I .most (other s) _ (own-light I peak most (other s));
+          some = end-pos (other s);
+          bounds =
+              subst (λ z. At s z (end entries s (x i) * E .b s * (denominators entries (lightAt m) s * entries .parts))) (omega arith)
+              (at-refl s (end entries s (x i) * E .b s * (denominators entries (lightAt m) s * entries .parts)));
+        }
 
-  top : bentTo peak D ≤ thousand
-  top = bent-le peak D
-
-  sixteenths : Enclosure 1 1 peak D → 0 < signal D .num → (i : Component) → Enclosed peak p i (NineSixteenths (code peak p i))
-  unfolding code
-  sixteenths E h = within-sixteenths (pixel-lights E h (lit h)) (maps (lit h)) top (E .within)
-
-  two : Enclosure 360 361 peak D → 0 < signal D .num → (i : Component) → Enclosed peak p i (LessThanTwo (code peak p i))
-  unfolding code
-  two E h = within-two (pixel-lights E h (lit h)) (maps (lit h)) top (E .within)
-
-  all-black : signal D .num ≡ 0 → (i : Component) → Enclosed peak p i (NineSixteenths (code peak p i))
-  unfolding code D
-  all-black e i = rw (mapped-dark peak p none i) (black i e _)
-    where
-      none : brightestLight p ≡ 0
-      none = light-of-brightest p ∙ unlit (brightest p) e
+    bounded : {Inside : ℕ → Fraction → Type 0} → 0 < p → 0 < q → ((c : ℕ) → 64 ≤ c → c ≤ 1015 → Ending p q roomAbove roomBelow c (Inside c))
+        → (i : Component) → Enclosed G peak i (Inside (codeOf peak x m i))
+    unfolding codeOf
+    bounded pp pq endings i =
+        let near-results = near entries (E .within) maps i in
+        within (record { seen = I .seen; pos = divisor; results = result }) room near-results (least entries (E .within) maps) pp pq (capped i) endings
 
   -- up to 1,000 cd/m2, or 5 half positions and more below the knee, which a whole code is
-  nearer : (peak ≤ 1000) ⊎ (2 * place D + 5 + positionOf (peak * units) ≤ 3 * 674406) → (i : Component) → Enclosed peak p i (NineSixteenths (code peak p i))
-  nearer c = go (decLe 1 (signal D .num)) (decLe peak 1000) c
-    where
-      go : Dec (1 ≤ signal D .num) → Dec (peak ≤ 1000) → (peak ≤ 1000) ⊎ (2 * place D + 5 + positionOf (peak * units) ≤ 3 * 674406)
-          → (i : Component) → Enclosed peak p i (NineSixteenths (code peak p i))
-      go (no s) d c = all-black (omega arith)
-      go (yes s) (yes h) c = sixteenths (up-to-thousand peak D h s) s
-      go (yes s) (no h) (inl g) = absurd (h g)
-      go (yes s) (no h) (inr g) = sixteenths (below-knee peak D (lt-of-not-le h) most s g) s
+  nearer : (peak ≤ 1000) ⊎ (2 * m + 5 + positionOf (peak * units) ≤ 3 * 674406) → (i : Component) → Enclosed G peak i (AtMost 9 16 (codeOf peak x m i))
+  nearer c =
+      bounded (left I peak most c) (lit< tt) (lit< tt)
+      (nine-sixteenths 1 1 roomAbove roomBelow (λ t. t + roomAbove) (λ t. t - roomBelow) sixteenths-high sixteenths-low (λ t. le-refl _) (λ t. le-refl _))
 
-  near : (i : Component) → Enclosed peak p i (LessThanTwo (code peak p i))
-  near = go (decLe 1 (signal D .num)) (decLe peak 1000) (decLe (2 * place D + 5 + positionOf (peak * units)) (3 * 674406))
+  near-two : (i : Component) → Enclosed G peak i (LessThan 2 (codeOf peak x m i))
+  near-two i = go (decLe peak 1000) (decLe (2 * m + 5 + positionOf (peak * units)) (3 * 674406))
     where
-      go : Dec (1 ≤ signal D .num) → Dec (peak ≤ 1000) → Dec (2 * place D + 5 + positionOf (peak * units) ≤ 3 * 674406)
-          → (i : Component) → Enclosed peak p i (LessThanTwo (code peak p i))
-      go (no s) d c i = nearer-near (all-black (omega arith) i)
-      go (yes s) (yes h) c i = nearer-near (nearer (inl h) i)
-      go (yes s) (no h) (yes g) i = nearer-near (nearer (inr g) i)
-      go (yes s) (no h) (no g) i = two (on-curve peak D (lt-of-not-le h) most (lt-of-not-le g)) s i
+      less : (d : ℕ) (g : Fraction) → AtMost 9 16 d g → LessThan 2 d g
+      less d g h = omega (arith, g .pos)
 
-  below : (peak ≤ 1000) ⊎ BelowKnee peak p → (peak ≤ 1000) ⊎ (2 * place D + 5 + positionOf (peak * units) ≤ 3 * 674406)
-  unfolding D
+      go : Dec (peak ≤ 1000) → Dec (2 * m + 5 + positionOf (peak * units) ≤ 3 * 674406) → Enclosed G peak i (LessThan 2 (codeOf peak x m i))
+      go (yes h) c = wider (less _) (nearer (inl h) i)
+      go (no h) (yes g) = wider (less _) (nearer (inr g) i)
+      go (no h) (no g) =
+          bounded (on-curve I peak most (lt-of-not-le h) (lt-of-not-le g)) (lit< tt) (lit< tt)
+          (less-than-two ratioUnder ratioOver roomAbove roomBelow ratios) i
+
+-- ---- codes: the position of each is that of an index
+module _ (peak : ℕ) (p : Pixel) (most : peak ≤ 10000) where
+  abbrev D : ℕ
+  D = brightest p
+
+  indexed : 0 < codeRead D - 64 → Indexed (ofCodes p) (lights p) (brightestPosition p)
+  unfolding brightestPosition
+  indexed h =
+      record {
+        k = codeIndex D;
+        at = code-position D;
+        some = omega arith;
+        range = omega arith;
+        seen = h;
+        lit = brightest-lit p;
+        signal = λ s. omega arith;
+        own = λ s i. code-light s (p i);
+        most = λ s l. same-light s (positionSignal (codePosition D)) (signal D) l (omega arith);
+      }
+
+  -- a bound for codes: by the index, or in a black pixel
+  by-index : (Inside : ℕ → Fraction → Type 0) → Inside 64 none
+      → (Indexed (ofCodes p) (lights p) (brightestPosition p) → (i : Component)
+      → Enclosed (ofCodes p) peak i (Inside (codeOf peak (lights p) (brightestPosition p) i)))
+      → (i : Component) → Enclosed (ofCodes p) peak i (Inside (code peak p i))
+  unfolding code
+  by-index Inside zero f i = go (decLe 1 (codeRead D - 64))
+    where
+      go : Dec (1 ≤ codeRead D - 64) → Enclosed (ofCodes p) peak i (Inside (code peak p i))
+      go (yes h) = f (indexed h) i
+      go (no h) =
+          let e : codeRead D - 64 ≡ 0 = omega arith in
+          subst (λ c. Enclosed (ofCodes p) peak i (Inside c)) (sym (code-dark peak p (light-of-brightest p ∙ unlit D e) i)) (black e zero)
+
+  below : (peak ≤ 1000) ⊎ BelowKnee peak p → (peak ≤ 1000) ⊎ (2 * brightestPosition p + 5 + positionOf (peak * units) ≤ 3 * 674406)
+  unfolding brightestPosition
   below (inl h) = inl h
   below (inr h) = inr (omega (arith, thousand-position))
 
 -- the voted property at each peak and pixel, and over all of them
 pub voted : (peak : ℕ) (p : Pixel) → peak ≤ 10000 → Voted peak p
+unfolding none
 voted peak p most =
     record {
-      near = near peak p most;
-      nearer = λ c. nearer peak p most (below peak p most c);
+      near = by-index peak p most (LessThan 2) (omega arith) (λ I. near-two I peak most);
+      nearer = λ c. by-index peak p most (AtMost 9 16) (omega arith) (λ I. nearer I peak most (below peak p most c));
       capped = mapped-at-most peak p;
       ordered = ordered peak p;
       greys = λ c d from l to. greys peak c d l;

@@ -1,40 +1,40 @@
 -- The voted property (demand 3): how far HLG codes lie from their exact values, and in which order they stand.
 use mathlib.Core.Logic.{_⊎_}
-use Prim.Native.Nat.{ℕ, _+_, _-_, _*_, _≤_, _<_}
+use Prim.Native.Nat.{ℕ, _+_, _*_, _≤_, _<_}
 use Rattle.laws.specs.Fraction.{Fraction}
 use Rattle.laws.specs.Side.{Side}
 use Rattle.quantity.specs.Units.{units, thousand}
 use Rattle.quantity.specs.Component.{Component, Pixel, brightest}
-use Rattle.position.specs.Position.{codeRead, codeLight, positionOf}
+use Rattle.position.specs.Position.{codePosition, codeLight, positionOf}
 use Rattle.pixel.specs.Conversion.{mapped, code}
-use Rattle.exact.specs.ExactValue.{Signal}
+use Rattle.exact.specs.ExactValue.{Given, ofCodes, Signal}
 
--- 64 + 876g lies less than two codes from d
-pub record LessThanTwo (d : ℕ) (g : Fraction) : Type 0 where
-  pub above : d * g .den < 64 * g .den + 876 * g .num + 2 * g .den
-  pub below : 64 * g .den + 876 * g .num < d * g .den + 2 * g .den
+-- 64 + 876g lies less than n codes from d
+pub record LessThan (n d : ℕ) (g : Fraction) : Type 0 where
+  pub above : d * g .den < 64 * g .den + 876 * g .num + n * g .den
+  pub below : 64 * g .den + 876 * g .num < d * g .den + n * g .den
 
--- it lies at most 9/16 of a code from d
-pub record NineSixteenths (d : ℕ) (g : Fraction) : Type 0 where
-  pub above : 16 * (d * g .den) ≤ 16 * (64 * g .den + 876 * g .num) + 9 * g .den
-  pub below : 16 * (64 * g .den + 876 * g .num) ≤ 16 * (d * g .den) + 9 * g .den
+-- it lies at most n/k of a code from d
+pub record AtMost (n k d : ℕ) (g : Fraction) : Type 0 where
+  pub above : k * (d * g .den) ≤ k * (64 * g .den + 876 * g .num) + n * g .den
+  pub below : k * (64 * g .den + 876 * g .num) ≤ k * (d * g .den) + n * g .den
 
 -- the HLG signal of a component has a lower and an upper fraction, both inside a bound
-pub record Enclosed (peak : ℕ) (p : Pixel) (i : Component) (Inside : Fraction → Type 0) : Type 0 where
+pub record Enclosed (G : Given) (peak : ℕ) (i : Component) (Inside : Fraction → Type 0) : Type 0 where
   pub fraction : Side → Fraction
-  pub signals : (s : Side) → Signal s peak p i (fraction s)
+  pub signals : (s : Side) → Signal G s peak i (fraction s)
   pub inside : (s : Side) → Inside (fraction s)
 
 -- the brightest component is a whole code or more below the knee: 2m + 2,048 ≤ 3t − w. Where the curve cuts m at w, it fails with either m
 abbrev pub BelowKnee : ℕ → Pixel → Type 0
-BelowKnee peak p = 2 * (1024 * (codeRead (brightest p) - 64)) + 2048 + positionOf (peak * units) ≤ 3 * positionOf thousand
+BelowKnee peak p = 2 * codePosition (brightest p) + 2048 + positionOf (peak * units) ≤ 3 * positionOf thousand
 
 -- demand 3 at one peak and one pixel
 pub record Voted (peak : ℕ) (p : Pixel) : Type 0 where
   -- each code lies less than two codes from its exact value
-  pub near : (i : Component) → Enclosed peak p i (LessThanTwo (code peak p i))
+  pub near : (i : Component) → Enclosed (ofCodes p) peak i (LessThan 2 (code peak p i))
   -- and at most 9/16 of a code where the curve does not bend, or not yet
-  pub nearer : (peak ≤ 1000) ⊎ BelowKnee peak p → (i : Component) → Enclosed peak p i (NineSixteenths (code peak p i))
+  pub nearer : (peak ≤ 1000) ⊎ BelowKnee peak p → (i : Component) → Enclosed (ofCodes p) peak i (AtMost 9 16 (code peak p i))
   -- no mapped component exceeds 1,000 cd/m2
   pub capped : (i : Component) → mapped peak p i ≤ thousand
   -- a component light at least as large as another gives a mapped component and a code at least as large

@@ -12,7 +12,7 @@ use Rattle.quantity.specs.Units.{units, thousand}
 use Rattle.pq.proofs.PqLaws.{at-most-signal, at-least-signal}
 use Rattle.exact.specs.ExactValue.{Value, Ends, X-to-H, J-to-H, Spline, BentSignal}
 
-same-value : (s : Side) (l x y : Fraction) → x .num * y .den ≡ y .num * x .den → Value s l x → Value s l y
+pub same-value : (s : Side) (l x y : Fraction) → x .num * y .den ≡ y .num * x .den → Value s l x → Value s l y
 unfolding Value
 same-value low l x y e h = at-least-signal h (record { cross = omega arith })
 same-value high l x y e h = at-most-signal h (record { cross = omega arith })

@@ -4,4 +4,5 @@ pub mod SoundLaws
 pub mod FinerLaws
 pub mod BentLaws
 pub mod SceneLaws
+pub mod CodeLaws
 pub mod ValueLaws

@@ -42,31 +42,28 @@ pub value-ordered : (l : Fraction) {x y : Fraction} → Value low l x → Value 
 unfolding Value
 value-ordered l a b = signals-ordered (≼-refl l) a b
 
-pub lights-apart : (x : Fraction) (s t : Side) (l k : Fraction) → Light s x l → Light t x k → Apart s t l k
-lights-apart x s t l k a b = by-sides (λ l. l) (λ u l. Light u x l) (λ m n. light-ordered x) s t {m = l} {n = k} a b
-
 pub values-apart : (l : Fraction) (s t : Side) (x y : Fraction) → Value s l x → Value t l y → Apart s t x y
 values-apart l s t x y a b = by-sides (λ x. x) (λ u x. Value u l x) (λ m n. value-ordered l) s t {m = x} {n = y} a b
 
 -- ---- how low and how high values are
--- that of no light is below 1/877
-dark : (l : Fraction) → l .num ≡ 0 → ValueAtMost l (over 1 877 (zero-lt-suc 876))
+-- that of no light is below one position
+dark : (l : Fraction) → l .num ≡ 0 → ValueAtMost l (over 1 897025 (zero-lt-suc 897024))
 unfolding ratioNum ratioDen
 dark l e =
     record {
       w = over 0 1 (zero-lt-suc 0);
       of-light = le-trans (le-of-eq (ap (λ n. n ^ 1305 * 1 ^ 8192) e)) zero-le;
-      of-signal = leb→le (3424 ^ 2523 * 877 ^ 32) (1 ^ 32 * 4096 ^ 2523) tt;
+      of-signal = leb→le (3424 ^ 2523 * 897025 ^ 32) (1 ^ 32 * 4096 ^ 2523) tt;
     }
 
--- so that a signal of 1/876 or more has no upper fraction 0
-pub light-above-zero : (x l : Fraction) → x .den ≤ 876 * x .num → Light high x l → 0 < l .num
+-- so that a signal of one position or more has no upper fraction 0
+pub light-above-zero : (x l : Fraction) → x .den ≤ 897024 * x .num → Light high x l → 0 < l .num
 unfolding Light Value
 light-above-zero x l h a = go a (decLe 1 (l .num))
   where
     go : ((x .num ≡ 0) × (l .num ≡ 0)) ⊎ ValueAtLeast l x → Dec (1 ≤ l .num) → 0 < l .num
     go b (yes y) = y
-    go (inl b) (no y) = absurd (not-le-of-lt (x .pos) (le-trans h (le-of-eq (ap (λ n. 876 * n) (b .0)))))
+    go (inl b) (no y) = absurd (not-le-of-lt (x .pos) (le-trans h (le-of-eq (ap (λ n. 897024 * n) (b .0)))))
     go (inr b) (no y) =
         let c = signals-ordered (≼-refl l) b (dark l (omega arith)) in
         absurd (omega (arith, h, c .cross, x .pos))

@@ -1,6 +1,6 @@
--- Results, their luminance and the scene light: no lower fraction exceeds an upper one.
+-- Results, their luminance and the scene light of whatever a pixel gives: no lower fraction exceeds an upper one, from sound fractions of lights.
 use mathlib.Core.Path.{_≡_, ap}
-use Prim.Native.Nat.{ℕ, _+_, _-_, _*_, _≤_, _<_}
+use Prim.Native.Nat.{ℕ, _*_, _≤_, _<_}
 use native.Mathlib.Nat.{not-le-of-lt, mul-pos, zero-lt-suc}
 use native.Mathlib.Decide.{decLe}
 use native.Mathlib.Omega.{arith}
@@ -8,54 +8,48 @@ use Rattle.laws.specs.Fraction.{Fraction, over, _≼_, _·_, _↑_}
 use Rattle.laws.specs.Side.{Side, low, high}
 use Rattle.laws.proofs.FractionLaws.{≼-refl, ≼-trans, ≼-product, ≼-power, ≼-root, ≼-cancel}
 use Rattle.quantity.specs.Units.{thousand}
-use Rattle.quantity.specs.Component.{Component, red, green, blue, Pixel, brightest, weighted}
-use Rattle.position.specs.Position.{codeRead}
+use Rattle.quantity.specs.Component.{Component, red, green, blue, Pixel, weighted}
 use Rattle.hlg_steps.specs.Steps.{scene}
-use Rattle.exact.specs.ExactValue.{signal, Result, relative, luminance, SceneLight, thousand-pos}
+use Rattle.exact.specs.ExactValue.{Given, Result, relative, luminance, SceneLight, thousand-pos}
 use Rattle.exact.proofs.ApartLaws.{Apart, by-sides}
-use Rattle.exact.proofs.LightLaws.{lights-apart}
-use Rattle.exact.proofs.BentLaws.{bent-light-ordered, light-pos, bent-light-pos}
-
--- a code is black up to 64
-lit : (d : ℕ) → 64 < d → 0 < codeRead d - 64
-lit d h = omega arith
-
-above-black : (d : ℕ) → 0 < codeRead d - 64 → 64 < d
-above-black d h = omega arith
-
-in-brightest : (p : Pixel) (i : Component) → 64 < p i → 64 < brightest p
-in-brightest p red h = omega arith
-in-brightest p green h = omega arith
-in-brightest p blue h = omega arith
+use Rattle.exact.proofs.BentLaws.{Sound, bent-light-ordered, bent-light-pos}
 
 weights-grow : (r t : Pixel) (y z : ℕ) (py : 0 < y) (pz : 0 < z) → ((j : Component) → over (r j) y py ≼ over (t j) z pz)
     → over (weighted r) y py ≼ over (weighted t) z pz
 weights-grow r t y z py pz h = record { cross = omega (arith, h red .cross, h green .cross, h blue .cross) }
 
-luminance-grows : (r t : Pixel) (y z : ℕ) (py : 0 < y) (pz : 0 < z) → ((j : Component) → over (r j) y py ≼ over (t j) z pz) → luminance r y py ≼ luminance t z pz
+luminance-grows : (r t : Pixel) (y z : ℕ) (py : 0 < y) (pz : 0 < z) → ((j : Component) → over (r j) y py ≼ over (t j) z pz)
+    → luminance r y py ≼ luminance t z pz
 luminance-grows r t y z py pz h =
     ≼-product (≼-product (weights-grow r t y z py pz h) (≼-refl (over 1 thousand thousand-pos))) (≼-refl (over 1 10000 (zero-lt-suc 9999)))
 
-module _ {peak : ℕ} {p : Pixel} where
+module _ {G : Given} (S : Sound G) where
+  owns-apart : {i : Component} (s t : Side) {l k : Fraction} → G .Own s i l → G .Own t i k → Apart s t l k
+  owns-apart {i} s t a b = by-sides (λ l. l) (λ u l. G .Own u i l) (λ l k. S .own) s t a b
+
+  mosts-apart : (s t : Side) {l k : Fraction} → G .Most s l → G .Most t k → Apart s t l k
+  mosts-apart s t a b = by-sides (λ l. l) (λ u l. G .Most u l) (λ l k. S .most) s t a b
+
+module _ {G : Given} (S : Sound G) {peak : ℕ} where
   -- ---- results
-  pub result-ordered : {i : Component} {r t : Fraction} → Result low peak p i r → Result high peak p i t → r ≼ t
+  pub result-ordered : {i : Component} {r t : Fraction} → Result G low peak i r → Result G high peak i t → r ≼ t
   result-ordered {i} {r} {t} x y =
       let below : r · x .most ≼ x .own · x .bent = record { cross = omega (arith, x .bounds) } in
       let above : y .own · y .bent ≼ t · y .most = record { cross = omega (arith, y .bounds) } in
-      let own : x .own ≼ y .own = record { cross = omega (arith, lights-apart (signal (p i)) _ _ (x .own) (y .own) (x .own-light) (y .own-light) .cross) } in
-      let bent = bent-light-ordered peak (signal (brightest p)) (x .bent-light) (y .bent-light) in
-      let most : y .most ≼ x .most = record { cross = omega (arith, lights-apart (signal (brightest p)) _ _ (y .most) (x .most) (y .most-light) (x .most-light) .cross) } in
+      let own : x .own ≼ y .own = record { cross = omega (arith, owns-apart S _ _ (x .own-light) (y .own-light) .cross) } in
+      let bent = bent-light-ordered S peak (x .bent-light) (y .bent-light) in
+      let most : y .most ≼ x .most = record { cross = omega (arith, mosts-apart S _ _ (y .most-light) (x .most-light) .cross) } in
       ≼-cancel (x .most) (x .some) (≼-trans below (≼-trans (≼-product own bent) (≼-trans above (≼-product (≼-refl t) most))))
 
-  results-apart : {i : Component} (s t : Side) {r u : Fraction} → Result s peak p i r → Result t peak p i u → Apart s t r u
-  results-apart {i} s t a b = by-sides (λ r. r) (λ u r. Result u peak p i r) (λ r u. result-ordered) s t a b
+  results-apart : {i : Component} (s t : Side) {r u : Fraction} → Result G s peak i r → Result G t peak i u → Apart s t r u
+  results-apart {i} s t a b = by-sides (λ r. r) (λ u r. Result G u peak i r) (λ r u. result-ordered) s t a b
 
-  -- an upper result of a component that is not black is above 0
-  result-pos : (i : Component) (r : Fraction) → 64 < p i → Result high peak p i r → 0 < r .num
-  result-pos i r h y = go (decLe 1 (r .num))
+  -- an upper result of a component with light is above 0
+  result-pos : (i : Component) (r : Fraction) → 0 < G .level → ((l : Fraction) → G .Own high i l → 0 < l .num) → Result G high peak i r → 0 < r .num
+  result-pos i r seen h y = go (decLe 1 (r .num))
     where
       some : 0 < y .own .num * y .bent .num
-      some = mul-pos (light-pos (p i) (y .own) (lit (p i) h) (y .own-light)) (bent-light-pos peak (brightest p) (y .bent) (lit (brightest p) (in-brightest p i h)) (y .bent-light))
+      some = mul-pos (h (y .own) (y .own-light)) (bent-light-pos S peak (y .bent) seen (y .bent-light))
 
       go : Dec (1 ≤ r .num) → 0 < r .num
       go (yes z) = z
@@ -66,17 +60,18 @@ module _ {peak : ℕ} {p : Pixel} where
 
   -- ---- luminance
   -- an upper luminance is above 0 unless the pixel is black
-  luminance-pos : (r : Pixel) (z : ℕ) (pos : 0 < z) → 64 < brightest p → ((j : Component) → Result high peak p j (over (r j) z pos)) → 0 < luminance r z pos .num
-  luminance-pos r z pos h x = mul-pos (mul-pos (go (decLe 65 (p red)) (decLe 65 (p green)) (decLe 65 (p blue))) (zero-lt-suc 0)) (zero-lt-suc 0)
+  luminance-pos : (r : Pixel) (z : ℕ) (pos : 0 < z) → 0 < G .level → ((j : Component) → Result G high peak j (over (r j) z pos)) → 0 < luminance r z pos .num
+  luminance-pos r z pos seen x =
+      let top = S .lit seen in
+      mul-pos (mul-pos (go (top .0) (result-pos (top .0) (over (r (top .0)) z pos) seen (top .1) (x (top .0)))) (zero-lt-suc 0)) (zero-lt-suc 0)
     where
-      go : Dec (64 < p red) → Dec (64 < p green) → Dec (64 < p blue) → 0 < weighted r
-      go (yes a) b c = omega (arith, result-pos red (over (r red) z pos) a (x red))
-      go (no a) (yes b) c = omega (arith, result-pos green (over (r green) z pos) b (x green))
-      go (no a) (no b) (yes c) = omega (arith, result-pos blue (over (r blue) z pos) c (x blue))
-      go (no a) (no b) (no c) = absurd (omega (arith, h))
+      go : (i : Component) → 0 < r i → 0 < weighted r
+      go red h = omega arith
+      go green h = omega arith
+      go blue h = omega arith
 
   -- ---- scene light
-  pub scene-light-ordered : {i : Component} {e f : ℕ} → 0 < signal (brightest p) .num → SceneLight low peak p i e → SceneLight high peak p i f → scene e ≼ scene f
+  pub scene-light-ordered : {i : Component} {e f : ℕ} → 0 < G .level → SceneLight G low peak i e → SceneLight G high peak i f → scene e ≼ scene f
   scene-light-ordered {i} {e} {f} h x y =
       let upper = luminance (x .r) (x .z) (x .pos) in
       let lower = luminance (y .r) (y .z) (y .pos) in
@@ -85,9 +80,10 @@ module _ {peak : ℕ} {p : Pixel} where
       let own : x .own ≼ y .own = record { cross = omega (arith, results-apart _ _ (x .own-result) (y .own-result) .cross) } in
       let owns : relative (x .own) ≼ relative (y .own) = ≼-product own (≼-refl (over 1 thousand thousand-pos)) in
       let luminances : lower ≼ upper = luminance-grows (y .r) (x .r) (y .z) (x .z) (y .pos) (x .pos) (λ j. record { cross = omega (arith, results-apart _ _ (y .results j) (x .results j) .cross) }) in
-      let lit-luminance = luminance-pos (x .r) (x .z) (x .pos) (above-black (brightest p) h) (x .results) in
+      let lit-luminance = luminance-pos (x .r) (x .z) (x .pos) h (x .results) in
       ≼-root 6 (λ z. omega arith)
       (≼-cancel upper lit-luminance (≼-trans below (≼-trans (≼-power 6 owns) (≼-trans above (≼-product (≼-refl (scene f ↑ 6)) luminances)))))
 
-  pub scene-lights-apart : {i : Component} (s t : Side) {e f : ℕ} → 0 < signal (brightest p) .num → SceneLight s peak p i e → SceneLight t peak p i f → Apart s t (scene e) (scene f)
-  scene-lights-apart {i} s t h a b = by-sides scene (λ u e. SceneLight u peak p i e) (λ e f. scene-light-ordered h) s t a b
+  pub scene-lights-apart : {i : Component} (s t : Side) {e f : ℕ} → 0 < G .level → SceneLight G s peak i e → SceneLight G t peak i f
+      → Apart s t (scene e) (scene f)
+  scene-lights-apart {i} s t h a b = by-sides scene (λ u e. SceneLight G u peak i e) (λ e f. scene-light-ordered h) s t a b

@@ -1,5 +1,5 @@
--- The exact value of an HLG code before any rounding or table (scope, The exact value), enclosed stage by stage: a lower (`low`) or an upper
--- (`high`) fraction of a stage follows from the unfavourable fractions of its inputs by the stage's own inequality. Light is in units.
+-- The exact value of an HLG code before any rounding or table (scope, The exact value), enclosed stage by stage: what serves as a lower (`low`) or
+-- an upper (`high`) fraction of a stage is said by that stage's inequality at the unfavourable fractions of what goes into it. Light is in units.
 -- "x, of .." above a definition says that x is a fraction of that quantity, on the side s.
 use mathlib.Core.Path.{_≡_}
 use mathlib.Core.Logic.{_⊎_}
@@ -15,10 +15,6 @@ use Rattle.position.specs.Position.{codeRead}
 use Rattle.hlg_steps.specs.Signal.{HlgSignal}
 use Rattle.hlg_steps.specs.Steps.{scene}
 
--- the PQ signal of a code, as read
-abbrev pub signal : ℕ → Fraction
-signal D = over (codeRead D - 64) 876 (zero-lt-suc 875)
-
 -- x, of the PQ value of a light l
 unfoldable pub Value : Side → Fraction → Fraction → Type 0
 Value low l x = ValueAtLeast l x
@@ -27,6 +23,26 @@ Value high l x = ValueAtMost l x
 -- l, of the light of a PQ signal x: the light whose PQ value is x; the signal 0 has the light 0
 unfoldable pub Light : Side → Fraction → Fraction → Type 0
 Light s x l = ((x .num ≡ 0) × (l .num ≡ 0)) ⊎ Value (other s) l x
+
+-- what a pixel gives: fractions of each component's light, of the brightest light and of its PQ signal X; the level is 0 just in a black pixel
+pub record Given : Type 1 where
+  pub Own : Side → Component → Fraction → Type 0
+  pub Most : Side → Fraction → Type 0
+  pub X : Side → Fraction → Type 0
+  pub level : ℕ
+
+-- ten-bit narrow-range codes give PQ signals: (D − 64)/876 of a code as read. X is known itself, on both sides
+abbrev pub signal : ℕ → Fraction
+signal D = over (codeRead D - 64) 876 (zero-lt-suc 875)
+
+abbrev pub ofCodes : Pixel → Given
+ofCodes p =
+    record {
+      Own = λ s i l. Light s (signal (p i)) l;
+      Most = λ s l. Light s (signal (brightest p)) l;
+      X = λ s x. x .num * signal (brightest p) .den ≡ signal (brightest p) .num * x .den;
+      level = signal (brightest p) .num;
+    }
 
 -- J and H, the PQ signals of 1,000 cd/m2 and of the peak, in q-ths; they serve only when the lower fraction of H is above the upper one of J
 pub record Ends (peak : ℕ) : Type 0 where
@@ -56,32 +72,32 @@ BentSignal s e X v =
     (((3 * e .J high ≤ 2 * X + e .H low) × Spline s e X v) ⊎
     (At s v X × Spline s e X v))
 
--- l, of the bent light under a peak above 1,000: X is x / q, replaced by the smaller of it and H
-pub record Bent (s : Side) (peak : ℕ) (X l : Fraction) : Type 0 where
+-- l, of the bent light under a peak above 1,000: X, whose fraction is x / q, is replaced by the smaller of it and H
+pub record Bent (G : Given) (s : Side) (peak : ℕ) (l : Fraction) : Type 0 where
   pub ends : Ends peak
   pub x : ℕ
-  pub same : x * X .den ≡ X .num * ends .q
+  pub at : G .X s (over x (ends .q) (ends .pos))
   pub v : ℕ
   pub bent : BentSignal s ends (min x (ends .H s)) v
   pub light : Light s (over v (ends .q) (ends .pos)) l
 
 -- l, of the smaller of the brightest light and 1,000 cd/m2
-abbrev pub Smaller : Side → Fraction → Fraction → Type 0
-Smaller low X l = Bounds low l (whole thousand) × Light low X l
-Smaller high X l = Bounds high l (whole thousand) ⊎ Light high X l
+abbrev pub Smaller : Given → Side → Fraction → Type 0
+Smaller G low l = Bounds low l (whole thousand) × G .Most low l
+Smaller G high l = Bounds high l (whole thousand) ⊎ G .Most high l
 
--- l, of the bent light, X being the PQ signal of the brightest light
-unfoldable pub BentLight : Side → ℕ → Fraction → Fraction → Type 0
-BentLight s peak X l = ((peak ≤ 1000) × Smaller s X l) ⊎ ((1000 < peak) × Bent s peak X l)
+-- l, of the bent light
+unfoldable pub BentLight : Given → Side → ℕ → Fraction → Type 0
+BentLight G s peak l = ((peak ≤ 1000) × Smaller G s l) ⊎ ((1000 < peak) × Bent G s peak l)
 
 -- r, of a component's result: its own light times the bent light over the brightest light, of which a fraction 0 does not serve
-pub record Result (s : Side) (peak : ℕ) (p : Pixel) (i : Component) (r : Fraction) : Type 0 where
+pub record Result (G : Given) (s : Side) (peak : ℕ) (i : Component) (r : Fraction) : Type 0 where
   pub own : Fraction
-  pub own-light : Light s (signal (p i)) own
+  pub own-light : G .Own s i own
   pub bent : Fraction
-  pub bent-light : BentLight s peak (signal (brightest p)) bent
+  pub bent-light : BentLight G s peak bent
   pub most : Fraction
-  pub most-light : Light (other s) (signal (brightest p)) most
+  pub most-light : G .Most (other s) most
   pub some : 0 < most .num
   pub bounds : Bounds s (r · most) (own · bent)
 
@@ -98,17 +114,15 @@ abbrev pub luminance : Pixel → (z : ℕ) → 0 < z → Fraction
 luminance r z pos = relative (over (weighted r) z pos) · over 1 10000 (zero-lt-suc 9999)
 
 -- e, of a component's scene light in 1/2^40: its relative result over the sixth root of the luminance
-pub record SceneLight (s : Side) (peak : ℕ) (p : Pixel) (i : Component) (e : ℕ) : Type 0 where
+pub record SceneLight (G : Given) (s : Side) (peak : ℕ) (i : Component) (e : ℕ) : Type 0 where
   pub own : Fraction
-  pub own-result : Result s peak p i own
+  pub own-result : Result G s peak i own
   pub z : ℕ
   pub pos : 0 < z
   pub r : Pixel
-  pub results : (j : Component) → Result (other s) peak p j (over (r j) z pos)
+  pub results : (j : Component) → Result G (other s) peak j (over (r j) z pos)
   pub bounds : Bounds s (scene e ↑ 6 · luminance r z pos) (relative own ↑ 6)
 
--- g, of a component's HLG signal; each is 0 in a pixel whose brightest light is 0
-unfoldable pub Signal : Side → ℕ → Pixel → Component → Fraction → Type 0
-Signal s peak p i g =
-    ((signal (brightest p) .num ≡ 0) × (g .num ≡ 0)) ⊎
-    ((0 < signal (brightest p) .num) × ((e : ℕ) × SceneLight s peak p i e × HlgSignal s (scene e) g))
+-- g, of a component's HLG signal; each is 0 in a black pixel
+unfoldable pub Signal : Given → Side → ℕ → Component → Fraction → Type 0
+Signal G s peak i g = ((G .level ≡ 0) × (g .num ≡ 0)) ⊎ ((0 < G .level) × ((e : ℕ) × SceneLight G s peak i e × HlgSignal s (scene e) g))

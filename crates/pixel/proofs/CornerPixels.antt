@@ -1,6 +1,6 @@
 -- The twelve marked pixels, by computation: under a peak above 1,000 the bent light is found by law, all else by the definitions.
 use mathlib.Core.Path.{_≡_, refl, _∙_, ap}
-use Prim.Native.Nat.{ℕ, _*_, _/_, _<_}
+use Prim.Native.Nat.{ℕ, _*_, _<_}
 use native.Mathlib.Nat.{mul-div-cancel-left}
 use native.Mathlib.Omega.{arith}
 use lib.Dec.{lit<}
@@ -16,10 +16,9 @@ use Rattle.eetf.proofs.SplineLaws.{curve-end}
 use Rattle.eetf.proofs.CurveLaws.{bent-at, peak-above, peak-near}
 use Rattle.hlg_steps.specs.StepTable.{stepTable, step}
 use Rattle.hlg.specs.Code.{luminance, reaches, hlgCode}
-use Rattle.hlg.proofs.CodeLaws.{code-black}
 use Rattle.pixel.specs.Conversion.{bentOf, mappedOf, codeOf, lights, brightestLight, brightestPosition, code}
 use Rattle.pixel.specs.CornerPixels.{Converts, CornerPixels}
-use Rattle.pixel.proofs.PixelLaws.{mapped-by, bent-of-light, brightest-lit, mapped-dark}
+use Rattle.pixel.proofs.PixelLaws.{mapped-by, bent-of-light, brightest-lit, code-dark}
 
 -- all that a code is computed by
 computed : ℕ → Pixel → Component → ℕ
@@ -60,17 +59,13 @@ unfolding computed
 first-code = record { to-red = refl; to-green = refl; to-blue = refl }
 
 -- ---- black, under any peak
-dark : (peak : ℕ) (p : Pixel) → brightestLight p ≡ 0 → (i : Component) → code peak p i ≡ 64
-unfolding code
-dark peak p h i = ap (hlgCode _) (mapped-dark peak p h i) ∙ code-black _
-
 no-light : (c : ℕ) → codeLight c ≡ 0 → brightestLight (pixel c c c) ≡ 0
 unfolding brightestLight
 no-light c h = omega arith
 
 all-dark : (peak c : ℕ) → codeLight c ≡ 0 → Converts peak (pixel c c c) 64 64 64
 all-dark peak c h =
-    let d = dark peak (pixel c c c) (no-light c h) in
+    let d = code-dark peak (pixel c c c) (no-light c h) in
     record { to-red = d red; to-green = d green; to-blue = d blue }
 
 lowest : codeLight 4 ≡ 0
@@ -90,7 +85,8 @@ at-end : (peak : ℕ) → 1000 < peak → bentLight peak (lightAt 897024) 897024
 unfolding lastPosition
 at-end peak h =
     bent-at peak h 897024
-    ∙ ap lightAt (curve-end (positionOf thousand) (positionOf (peak * units)) (peak-above peak h) (peak-near peak h) 897024 (position-is (peak * units) .range) ∙ thousand-position)
+    ∙ ap lightAt (curve-end (positionOf thousand) (positionOf (peak * units)) (peak-above peak h) (peak-near peak h) 897024 (position-is (peak * units) .range))
+    ∙ ap lightAt thousand-position
     ∙ end-light
 
 full : codeLight 940 ≡ 167772160000
@@ -102,7 +98,8 @@ unfolding codeLight lightEntry lightTable
 full-read = refl
 
 -- a grey of light l keeps the light n that it is bent to
-bright : (peak : ℕ) (x : Pixel) (m l n : ℕ) → ((i : Component) → x i ≡ l) → 0 < l → bentOf peak x m ≡ n → (i : Component) → codeOf peak x m i ≡ hlgCode (luminance n n n) n
+bright : (peak : ℕ) (x : Pixel) (m l n : ℕ) → ((i : Component) → x i ≡ l) → 0 < l → bentOf peak x m ≡ n
+    → (i : Component) → codeOf peak x m i ≡ hlgCode (luminance n n n) n
 unfolding codeOf
 bright peak x m l n h pos e i = rw (kept red, kept green, kept blue, kept i)
   where

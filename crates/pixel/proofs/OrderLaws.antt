@@ -1,6 +1,6 @@
 -- Order among the components of a pixel, and among greys under one peak: over lights and a position, then of codes.
 use mathlib.Core.Path.{_≡_, refl, _∙_, ap}
-use Prim.Native.Nat.{ℕ, _*_, _/_, _≤_, _<_}
+use Prim.Native.Nat.{ℕ, _≤_, _<_}
 use native.Mathlib.Nat.{mul-le-mul-right, mul-div-cancel-left}
 use native.Mathlib.Decide.{decLe}
 use native.Mathlib.Omega.{arith}
@@ -24,7 +24,8 @@ module _ (peak : ℕ) (x : Pixel) (m : ℕ) (i j : Component) (h : x i ≤ x j) 
   unfolding codeOf
   ordered-of = (mapped-grows, code-grows _ (mappedOf peak x m i) (mappedOf peak x m j) mapped-grows)
 
-pub ordered : (peak : ℕ) (p : Pixel) (i j : Component) → codeLight (p i) ≤ codeLight (p j) → (mapped peak p i ≤ mapped peak p j) × (code peak p i ≤ code peak p j)
+pub ordered : (peak : ℕ) (p : Pixel) (i j : Component) → codeLight (p i) ≤ codeLight (p j)
+    → (mapped peak p i ≤ mapped peak p j) × (code peak p i ≤ code peak p j)
 unfolding code
 ordered peak p = ordered-of peak (lights p) (brightestPosition p)
 

@@ -1,47 +1,19 @@
 -- Laws of a converted pixel: over its lights and a position, then of codes; in a black pixel too.
 use mathlib.Core.Path.{_≡_, refl, _∙_, sym, ap, subst}
-use mathlib.Core.Logic.{_⊎_, inl, inr}
-use Prim.Native.Nat.{ℕ, max, _+_, _*_, _/_, _≤_, _<_}
-use native.Mathlib.Nat.{le-trans, le-of-eq, le-antisymm, zero-div, zero-mul}
-use native.Mathlib.Decide.{decLe}
+use Prim.Native.Nat.{ℕ, _+_, _*_, _/_, _≤_, _<_}
+use native.Mathlib.Nat.{le-trans, zero-div, zero-mul}
 use native.Mathlib.Omega.{arith}
 use Rattle.laws.proofs.DivisionLaws.{floor-le, lt-floor}
 use Rattle.quantity.specs.Units.{thousand, tenThousand, lastPosition}
-use Rattle.quantity.specs.Component.{Component, red, green, blue, Pixel, brightest}
+use Rattle.quantity.specs.Component.{Component, Pixel, brightest}
 use Rattle.position.specs.Position.{codePosition, codeLight, lightAt}
-use Rattle.position.proofs.LightLaws.{light-at-most, code-light-at, code-light-grows}
+use Rattle.position.proofs.LightLaws.{light-at-most, code-light-at, code-light-grows, brightest-at, each-le, brightest-of}
 use Rattle.eetf.specs.Curve.{bentLight, mappedLight}
 use Rattle.eetf.proofs.CurveLaws.{bent-le-thousand}
 use Rattle.eetf.proofs.MappingLaws.{ratio-le}
-use Rattle.hlg.specs.Code.{luminance, hlgCode}
-use Rattle.hlg.proofs.CodeLaws.{code-to}
+use Rattle.hlg.specs.Code.{hlgCode}
+use Rattle.hlg.proofs.CodeLaws.{code-to, code-black}
 use Rattle.pixel.specs.Conversion.{bentOf, mappedOf, lights, brightestLight, brightestPosition, bent, mapped, code}
-
--- ---- the largest of three
-pub one-of : (p : Pixel) → (p red ≡ brightest p) ⊎ ((p green ≡ brightest p) ⊎ (p blue ≡ brightest p))
-one-of p = go (decLe (p green) (p red)) (decLe (p blue) (max (p red) (p green)))
-  where
-    go : Dec (p green ≤ p red) → Dec (p blue ≤ max (p red) (p green)) → (p red ≡ brightest p) ⊎ ((p green ≡ brightest p) ⊎ (p blue ≡ brightest p))
-    go (yes a) (yes b) = inl (omega arith)
-    go (no a) (yes b) = inr (inl (omega arith))
-    go d (no b) = inr (inr (omega arith))
-
-pub each-le : (p : Pixel) (i : Component) → p i ≤ brightest p
-each-le p red = omega arith
-each-le p green = omega arith
-each-le p blue = omega arith
-
--- of numbers that grow with others the largest is that of the largest
-pub brightest-of : (f : ℕ → ℕ) → ((a b : ℕ) → a ≤ b → f a ≤ f b) → (p : Pixel) → brightest (λ i. f (p i)) ≡ f (brightest p)
-brightest-of f grows p = le-antisymm (omega (arith, under red, under green, under blue)) (least (one-of p))
-  where
-    under : (i : Component) → f (p i) ≤ f (brightest p)
-    under i = grows (p i) (brightest p) (each-le p i)
-
-    least : (p red ≡ brightest p) ⊎ ((p green ≡ brightest p) ⊎ (p blue ≡ brightest p)) → f (brightest p) ≤ brightest (λ i. f (p i))
-    least (inl e) = le-trans (le-of-eq (ap f (sym e))) (each-le (λ i. f (p i)) red)
-    least (inr (inl e)) = le-trans (le-of-eq (ap f (sym e))) (each-le (λ i. f (p i)) green)
-    least (inr (inr e)) = le-trans (le-of-eq (ap f (sym e))) (each-le (λ i. f (p i)) blue)
 
 -- ---- lights x mapped to r: each keeps its ratio to the brightest, m, which becomes n; rounded down
 pub record Floor (c n m r : ℕ) : Type 0 where
@@ -50,7 +22,7 @@ pub record Floor (c n m r : ℕ) : Type 0 where
 
 pub record Mapped (m n : ℕ) (x r : Pixel) : Type 0 where
   pub inside : (i : Component) → x i ≤ m
-  pub brightest : (x red ≡ m) ⊎ ((x green ≡ m) ⊎ (x blue ≡ m))
+  pub brightest : (i : Component) × (x i ≡ m)
   pub floors : (i : Component) → Floor (x i) n m (r i)
 
 module _ (peak : ℕ) (x : Pixel) (m : ℕ) where
@@ -59,7 +31,7 @@ module _ (peak : ℕ) (x : Pixel) (m : ℕ) where
   ratio-kept h =
       record {
         inside = each-le x;
-        brightest = one-of x;
+        brightest = brightest-at x;
         floors = λ i. record { below = floor-le (x i * bentOf peak x m) (brightest x); above = lt-floor (x i * bentOf peak x m) (brightest x) h };
       }
 
@@ -92,18 +64,9 @@ pub mapped-dark : (peak : ℕ) (p : Pixel) → brightestLight p ≡ 0 → (i : C
 unfolding mapped
 mapped-dark peak p = mapped-of-none peak (lights p) (brightestPosition p)
 
--- stage by stage over the codes themselves
-pub bent-by-codes : (peak : ℕ) (p : Pixel) → bent peak p ≡ bentLight peak (brightestLight p) (brightestPosition p)
-unfolding bent
-bent-by-codes peak p = refl
-
-pub mapped-by-codes : (peak : ℕ) (p : Pixel) (i : Component) → mapped peak p i ≡ mappedLight (codeLight (p i)) (brightestLight p) (bent peak p)
-unfolding mapped
-mapped-by-codes peak p i = refl
-
-pub code-by-codes : (peak : ℕ) (p : Pixel) (i : Component) → code peak p i ≡ hlgCode (luminance (mapped peak p red) (mapped peak p green) (mapped peak p blue)) (mapped peak p i)
+pub code-dark : (peak : ℕ) (p : Pixel) → brightestLight p ≡ 0 → (i : Component) → code peak p i ≡ 64
 unfolding code
-code-by-codes peak p i = refl
+code-dark peak p h i = ap (hlgCode _) (mapped-dark peak p h i) ∙ code-black _
 
 -- the ranges of lights, positions and codes
 pub component-le : (p : Pixel) (i : Component) → codeLight (p i) ≤ brightestLight p
@@ -129,16 +92,3 @@ mapped-at-most peak p i = le-trans (mapped-le-bent peak (lights p) (brightestPos
 pub code-range : (peak : ℕ) (p : Pixel) (i : Component) → code peak p i ≤ 1019
 unfolding code
 code-range peak p i = code-to _ _
-
-abbrev pub place : ℕ → ℕ
-place D = codePosition D
-
-abbrev pub bentTo : ℕ → ℕ → ℕ
-bentTo peak D = bentLight peak (codeLight D) (place D)
-
-pub bent-of-brightest : (peak : ℕ) (p : Pixel) → bent peak p ≡ bentTo peak (brightest p)
-unfolding bent brightestPosition
-bent-of-brightest peak p = ap (λ l. bentLight peak l (place (brightest p))) (light-of-brightest p)
-
-pub bent-le : (peak D : ℕ) → bentTo peak D ≤ thousand
-bent-le peak D = subst (λ l. bentLight peak l (place D) ≤ thousand) (sym (code-light-at D)) (bent-le-thousand peak (place D))

@@ -1,0 +1,56 @@
+-- The numbers of these proofs that were found by trial on the tables. A law or a computed test shows each; tools/slack.py tells how much room it has.
+use Prim.Native.Nat.{ℕ, _*_}
+
+-- the light of entry 1, the least above black, and the least luminance of a pixel that has it, in ten-thousandths
+abbrev pub leastLight : ℕ
+leastLight = 81
+
+abbrev pub leastLuminance : ℕ
+leastLuminance = 593 * leastLight
+
+-- ---- units that the fractions of a result lie above and below its mapped number, and ten-thousandths those of the luminance
+abbrev pub resultAbove : ℕ
+resultAbove = 3
+
+abbrev pub resultBelow : ℕ
+resultBelow = 2
+
+abbrev pub luminanceBelow : ℕ
+luminanceBelow = 15000
+
+abbrev pub luminanceAbove : ℕ
+luminanceAbove = 30000
+
+-- scene light that a unit takes at the least luminance, and that those units take above and below a step; in 1/2^40
+abbrev pub slopeAbove : ℕ
+slopeAbove = 2730
+
+abbrev pub slopeBelow : ℕ
+slopeBelow = 2560
+
+abbrev pub roomAbove : ℕ
+roomAbove = 30000
+
+abbrev pub roomBelow : ℕ
+roomBelow = 27000
+
+-- ---- the bent light lies within this ratio of the engine's
+abbrev pub ratioUnder : ℕ
+ratioUnder = 360
+
+abbrev pub ratioOver : ℕ
+ratioOver = 361
+
+-- positions that the bent signal lies off the curve's
+abbrev pub positionsOff : ℕ
+positionsOff = 8
+
+-- the bent positions under peaks from 1,001 to 10,000, and the cells of the light table that hold them and eight more on either side
+abbrev pub leastBent : ℕ
+leastBent = 563095
+
+abbrev pub firstCell : ℕ
+firstCell = 2199
+
+abbrev pub cells : ℕ
+cells = 436
