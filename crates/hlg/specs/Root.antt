@@ -1,7 +1,7 @@
 -- Bounds of the sixth root of a luminance, by which a step is reached or missed in a few products. No public call cites them.
 use Prim.Native.Nat.{ℕ, _+_, _*_, _^_, _≤_, _<_}
 
--- 5¹¹, the factor of a step's side beside its sixth power and the luminance, once powers of 2 and 10,000 are cancelled
+-- 5¹¹, what A⁵ leaves beside a power of 2 when 10,000 is cancelled
 abbrev pub fives : ℕ
 fives = 48828125
 

@@ -9,7 +9,7 @@ use Rattle.laws.specs.Fraction.{Fraction, over}
 use Rattle.laws.specs.Side.{Side, low, high, At}
 use Rattle.hlg_steps.specs.Signal.{Logarithm}
 
--- the step of code d in any table of as many; a code below 65 or above 1,019 reads the nearer end
+-- the step of code d in a table of 955, whatever they are; a code below 65 or above 1,019 reads the nearer end
 abbrev pub stepIn : List ℕ → ℕ → ℕ
 stepIn t d = getD t (min (d - 65) 954) 0
 

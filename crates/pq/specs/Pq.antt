@@ -1,6 +1,5 @@
 -- The PQ value of a light and the rule of the light table (scope, Light: PQ value). Lights and signals are fractions, light in units.
--- Light l has the PQ value V with V^32 = r^2523, r = (3424 + 77216w) / (4096 + 76544w), w^8192 = (l / 10,000N)^1305. In SMPTE ST 2084
--- m1 = 1305/8192 (2610/16384), m2 = 2523/32, c1 = 3424/4096, c2 = 77216/4096 (2413/128) and c3 = 76544/4096 (2392/128). Every power is
+-- Light l has the PQ value V with V^32 = r^2523, r = (3424 + 77216w) / (4096 + 76544w), w^8192 = (l / 10,000N)^1305. Every power is
 -- cross-multiplied; r grows with w, so a fraction on one side of w gives a fraction on the same side of V.
 use mathlib.Core.Path.{_≡_}
 use mathlib.Core.List.{List}
@@ -10,7 +9,9 @@ use lib.ListN.{getD}
 use Rattle.laws.specs.Fraction.{Fraction, over, whole}
 use Rattle.quantity.specs.Units.{tenThousand}
 
--- r, (c1 + c2 w) / (1 + c3 w), at w = a / b is ratioNum a b / ratioDen a b
+-- SMPTE ST 2084's constants: w is the light to the power m1 = 1305/8192 (2610/16384), r is (c1 + c2 w) / (1 + c3 w) with c1 = 3424/4096,
+-- c2 = 77216/4096 (2413/128) and c3 = 76544/4096 (2392/128), and V is r to the power m2 = 2523/32.
+-- r at w = a / b is ratioNum a b / ratioDen a b
 unfoldable pub ratioNum : ℕ → ℕ → ℕ
 ratioNum a b = 3424 * b + 77216 * a
 
@@ -42,7 +43,7 @@ indexSignal k = over k 3504 (zero-lt-suc 3503)
 abbrev pub positionSignal : ℕ → Fraction
 positionSignal q = over q 897024 (zero-lt-suc 897023)
 
--- entry k of any table of as many lights; past its end the last
+-- entry k of a table of 3,505 lights, whatever they are; past its end the last one
 abbrev pub entryIn : List ℕ → ℕ → ℕ
 entryIn t k = getD t (min k 3504) 0
 

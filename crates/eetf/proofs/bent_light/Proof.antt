@@ -1,6 +1,6 @@
 -- `eetf::bent_light` meets its contract, whatever the table holds: each branch is the law of that side of 1,000 cd/m2.
 use mathlib.Core.Path.{sym, _∙_}
-use Prim.Native.Nat.{min}
+use Prim.Native.Nat.{min, _≤_}
 use native.Mathlib.Omega.{arith}
 use borrow.Author.Needs.{needs}
 use Rattle.quantity.specs.Units.{units, thousand, tenThousand, lastPosition}
@@ -14,7 +14,7 @@ returns : tie.Need-returns
 unfolding units thousand tenThousand
 returns c =
     let a = c .before .before .args in
-    let low = c .before .if1 .taken in
+    let low : a .peak ≤ 1000 = omega arith in
     omega (arith, unbent-in (entryIn (a .lights .now)) (a .peak) (peakPositionRead (a .w .0)) (min (a .m1 .0) tenThousand) (min (a .m .0) lastPosition) low)
 
 returns-2 : tie.Need-returns-2
