@@ -1,0 +1,108 @@
+-- Laws of the tests of a span, for any test of a sample: what a passed test says, and what a destination and a host's number are after each answer.
+use mathlib.Core.Path.{_≡_, refl, sym, _∙_, ap, subst}
+use mathlib.Core.Bool.{Bool, true, false, cond, not, _||_}
+use mathlib.Core.List.{List, _++_}
+use Prim.Native.Nat.{ℕ, suc, _+_, _*_, _-_, _/_, _%_, _≤_, _<_}
+use native.Mathlib.Omega.{arith}
+use lib.Dec.{eqb, ltb}
+use lib.ListN.{length, take, drop}
+use borrow.Author.Tests.{ltb-true, ltb-false, eqb-true, not-false}
+use Rattle.quantity.specs.Component.{Pixel}
+use Rattle.rows.specs.declared.RowAnswer.{RowAnswer}
+use Rattle.rows.specs.declared.RowAnswer.the-variants.{Converted, Refused}
+use Rattle.rows.specs.Row.{sampleAt, spanBytes}
+use Rattle.rows.specs.Answer.{firstRefused, lengthRefused, destinationRefused, spanRefused, spanAnswer, bytesAfter, hostNumber}
+use Rattle.rows.proofs.RowLaws.{put-span}
+
+-- ---- the search for a refused sample, one sample on, and at its end
+pub refused-here : (refused : ℕ → Bool) (row : List ℕ) (i to : ℕ) → i < to
+    → firstRefused refused row i (to - i) ≡ cond (refused (sampleAt row i)) i (firstRefused refused row (i + 1) (to - (i + 1)))
+unfolding firstRefused
+refused-here refused row i to h = let e : to - i ≡ suc (to - (i + 1)) = omega arith in ap (firstRefused refused row i) e
+
+pub refused-none : (refused : ℕ → Bool) (row : List ℕ) (i n : ℕ) → n ≡ 0 → firstRefused refused row i n ≡ i
+unfolding firstRefused
+refused-none refused row i n e = ap (firstRefused refused row i) e
+
+-- ---- tests that are passed
+pub neither : (a b : Bool) → a || b ≡ false → (a ≡ false) × (b ≡ false)
+neither true b e = absurd (let n : _≡_ {A = ℕ} 0 1 = cc in omega arith)
+neither false b e = (refl, e)
+
+pub length-taken : (bytes : ℕ) → lengthRefused bytes ≡ false → (bytes % 6 ≡ 0) × (bytes ≤ 49152)
+unfolding lengthRefused
+length-taken bytes e =
+    let t = neither (not (eqb (bytes % 6) 0)) (ltb 49152 bytes) e in
+    (eqb-true (bytes % 6) 0 (not-false (eqb (bytes % 6) 0) (t .0)), ltb-false 49152 bytes (t .1))
+
+pub destination-taken : (bytes ofRow : ℕ) → destinationRefused bytes ofRow ≡ false → bytes ≡ ofRow
+unfolding destinationRefused
+destination-taken bytes ofRow e = eqb-true bytes ofRow (not-false (eqb bytes ofRow) e)
+
+pub span-taken : (pixels first end : ℕ) → spanRefused pixels first end ≡ false → (first ≤ end) × (end ≤ pixels)
+unfolding spanRefused
+span-taken pixels first end e =
+    let t = neither (ltb end first) (ltb pixels end) e in
+    (ltb-false end first (t .0), ltb-false pixels end (t .1))
+
+-- ---- answers
+-- what holds of both answers of a test holds of its answer
+pub either : (P : RowAnswer → Type 0) (b : Bool) (x y : RowAnswer) → (b ≡ true → P x) → (b ≡ false → P y) → P (cond b x y)
+either P true x y p q = p refl
+either P false x y p q = q refl
+
+pub refused-not-converted : {A : Type 0} {number place : ℕ} → Refused number place ≡ Converted → A
+refused-not-converted e = absurd (let n : _≡_ {A = ℕ} 0 1 = cc in omega arith)
+
+-- what has been tested where a span is converted
+pub record Accepted (row : List ℕ) (bytes first end : ℕ) : Type 0 where
+  pub pixels : length row % 6 ≡ 0
+  pub longest : length row ≤ 49152
+  pub same : bytes ≡ length row
+  pub ordered : first ≤ end
+  pub within : 6 * end ≤ length row
+
+module _ (refused : ℕ → Bool) (row : List ℕ) (bytes first end : ℕ) where
+  pub accepted : spanAnswer refused row bytes first end ≡ Converted → Accepted row bytes first end
+  unfolding spanAnswer
+  accepted =
+      let i = firstRefused refused row (3 * first) (3 * (end - first)) in
+      let P : RowAnswer → Type 0 = λ a. a ≡ Converted → Accepted row bytes first end in
+      either P (lengthRefused (length row)) _ _ (λ _. refused-not-converted) (λ a.
+      either P (destinationRefused bytes (length row)) _ _ (λ _. refused-not-converted) (λ b.
+      either P (spanRefused (length row / 6) first end) _ _ (λ _. refused-not-converted) (λ c.
+      either P (ltb i (3 * end)) _ _ (λ _. refused-not-converted) (λ _ _.
+      let l = length-taken (length row) a in
+      let s = span-taken (length row / 6) first end c in
+      record {
+        pixels = l .0;
+        longest = l .1;
+        same = destination-taken bytes (length row) b;
+        ordered = s .0;
+        within = omega arith;
+      }))))
+
+  -- the number for a host fits: at most 9, and a sample of the longest row
+  pub host-number-fits : hostNumber (spanAnswer refused row bytes first end) ≤ 6291456
+  unfolding spanAnswer
+  host-number-fits =
+      let i = firstRefused refused row (3 * first) (3 * (end - first)) in
+      let P : RowAnswer → Type 0 = λ a. hostNumber a ≤ 6291456 in
+      either P (lengthRefused (length row)) _ _ (λ _. omega arith) (λ a.
+      either P (destinationRefused bytes (length row)) _ _ (λ _. omega arith) (λ b.
+      either P (spanRefused (length row / 6) first end) _ _ (λ _. omega arith) (λ c.
+      either P (ltb i (3 * end)) _ _ (λ d.
+      let l = length-taken (length row) a in
+      let s = span-taken (length row / 6) first end c in
+      let k = ltb-true i (3 * end) d in
+      omega arith) (λ _. omega arith))))
+
+-- ---- the destination of a refused call, and of one that converts
+module _ (f : Pixel → Pixel) (row dst : List ℕ) (first end : ℕ) {a : RowAnswer} where
+  pub refused-after : {number place : ℕ} → a ≡ Refused number place → dst ≡ bytesAfter a f row dst first end
+  refused-after told = sym (ap (λ (x : RowAnswer). bytesAfter x f row dst first end) told)
+
+  pub converted-after : (ys : List ℕ) → a ≡ Converted → first ≤ end → 6 * end ≤ length row
+      → ys ≡ spanBytes f (take (length row - 6 * first) (drop (6 * first) row)) 0 (end - first)
+      → take (6 * first) dst ++ (ys ++ drop (6 * end - 6 * first) (drop (6 * first) dst)) ≡ bytesAfter a f row dst first end
+  converted-after ys told le within y = put-span f row dst ys first end le within y ∙ sym (ap (λ (x : RowAnswer). bytesAfter x f row dst first end) told)
