@@ -2,7 +2,7 @@
 
     python3 -m bench.fallbacks [PEAK]
 
-A replay in whole numbers of the guesses and tests of crates/pq_hlg/src, block by block, on TAKEN rows of each
+A replay in whole numbers of the guesses and tests of crates/span/src, block by block, on TAKEN rows of each
 picture, evenly spread. Functions have the names that they have there. Every code is held to the second
 implementation's, and the constants to those files. Nothing here depends on the machine.
 """
@@ -32,12 +32,12 @@ LEAST, SPREAD, GUESS = 12_378_400_392_853_802, 2_000_000_000_000, 4_611_686_018_
 
 # what of the above, and of the numbers below, stands in which file
 CONSTANTS = {
-    "pq_hlg/src/block.rt": (96, 32, 64),
-    "pq_hlg/src/codes.rt": (1_000, THOUSAND, UNITS),
-    "pq_hlg/src/hints.rt": (800, 33, 2**58, 64, 30, 32, 2**20, 2**38, 2**32, 610, 940, 420),
-    "pq_hlg/src/near.rt": (2**17, 64, 65, 1_018, 1_020),
-    "pq_hlg/src/root.rt": (2_627, 6_780, 593, 47, WHOLE, SIXTH, LEAST, SPREAD, GUESS, 128, 38),
-    "pq_hlg/src/span.rt": (BLOCK,),
+    "span/src/block.rt": (96, 32, 64),
+    "span/src/codes.rt": (1_000, THOUSAND),
+    "span/src/hints.rt": (800, 33, 2**58, 64, 30, 32, 2**20, 2**38, 2**32, 610, 940, 420),
+    "span/src/near.rt": (2**17, 64, 65, 1_018, 1_020),
+    "span/src/root.rt": (2_627, 6_780, 593, 47, WHOLE, SIXTH, LEAST, SPREAD, GUESS, 128, 38),
+    "span/src/lib.rt": (UNITS, BLOCK),
     "eetf/src/lib.rt": (THOUSAND, THOUSAND_POSITION, LAST_POSITION, 674_504, 27),
     "position/src/lib.rt": (64, 940, 256, LAST_POSITION),
 }

@@ -1,7 +1,7 @@
 #!/usr/bin/env python3
 """The hints of the fast row: guesses that a test confirms each time, so nothing rests on their values.
 
-    python3 tools/hints.py source    print crates/pq_hlg/src/hint_table.rt
+    python3 tools/hints.py source    print crates/span/src/hint_table.rt
     python3 tools/hints.py --check   compare that file with what would be printed
     python3 tools/hints.py slack     how far a guess of a root may lie, how far these do, and how far the proof's inequality allows
 
@@ -27,7 +27,7 @@ import hlg_steps
 import light_table
 
 ROOT = Path(__file__).resolve().parent.parent
-SOURCE = ROOT / "crates/pq_hlg/src/hint_table.rt"
+SOURCE = ROOT / "crates/span/src/hint_table.rt"
 SPREAD = 10**12                          # `spread` of the laws; LEAST and SPREAD of root.rt are 2^79 / 5^11 less it, and twice it
 getcontext().prec = 50
 

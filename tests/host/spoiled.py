@@ -4,7 +4,7 @@ gives the same numbers and bytes, only slower.
     python3 -m tests.host.spoiled [--kind KIND] [--seed N] [--library FILE] [--spoiled FILE]
 
 Copies the crates and what is proved of them to a temporary folder, spoils every number of hint_table.rt there,
-has the prover build that library, and asks both the same calls. Only pq_hlg is proved again. --spoiled names a
+has the prover build that library, and asks both the same calls. Only span and pq_hlg are proved again. --spoiled names a
 library that is built already. How much slower it is, is printed; no time is asserted.
 """
 
@@ -24,7 +24,7 @@ from .compare import Difference, adversarial_rows, batches, damaged_calls, hold,
 from .engine import LIBRARY, ROOT, Broken, Call, ask, build
 from .greys import CODES
 
-TABLE = "crates/pq_hlg/src/hint_table.rt"
+TABLE = "crates/span/src/hint_table.rt"
 ENTRY = re.compile(r"^    (\d+),$", re.M)
 WORD = 2**64
 RUN = 16                                 # entries in a row that are spoiled alike: a guess takes two neighbours
@@ -69,7 +69,7 @@ def prove_library(folder):
     """The static library of a tree; nothing is built from what isn't proved."""
     run = subprocess.run(["rt", "staticlib", "pq_hlg"], cwd=folder, capture_output=True, text=True)
     if run.returncode:
-        raise Difference(f"with spoiled hints pq_hlg is not proved\n{run.stdout[-4_000:]}{run.stderr[-4_000:]}")
+        raise Difference(f"with spoiled hints span or pq_hlg is not proved\n{run.stdout[-4_000:]}{run.stderr[-4_000:]}")
     return folder / "target/staticlib/libpq_hlg.a"
 
 
@@ -131,7 +131,7 @@ def main(arguments):
         with TemporaryDirectory(prefix="spoiled-") as folder:
             if not options.spoiled:
                 options.spoiled = build_spoiled(Path(folder), options.kind, random)
-                print(f"spoiled hints ({options.kind}): pq_hlg is proved all the same")
+                print(f"spoiled hints ({options.kind}): span and pq_hlg are proved all the same")
             run(options.library, options.spoiled, random)
     except (Difference, Broken) as found:
         print(f"DIFFERENT: {found}")

@@ -8,7 +8,7 @@ use lib.Dec.{eqb, leb, ltb}
 use lib.ListN.{length, drop}
 use lib.Seq.{sets}
 use Rattle.quantity.specs.Component.{red, green, blue, Pixel}
-use Rattle.pq_hlg.specs.Row.{pixelAt}
+use Rattle.rows.specs.Row.{pixelAt}
 
 -- the character of a number below 10; 48 is `0`
 abbrev pub digit : ℕ → ℕ

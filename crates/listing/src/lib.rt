@@ -1,25 +1,12 @@
 // What the program prints: a line for each pixel of a converted row, its three codes in decimal, or the line of a refusal.
 ghost use mathlib.Core.Path.{_≡_};
-ghost use Prim.Native.Nat.{_+_, _*_, _/_, _≤_, _<_};
+ghost use Prim.Native.Nat.{_+_, _*_, _≤_, _<_};
 ghost use mathlib.Core.List.{[], _∷_, _++_};
 ghost use lib.ListN.{length};
 ghost use Rattle.quantity.specs.Component.{pixel};
-ghost use Rattle.pq_hlg.specs.Row.{sampleAt, pixelAt};
+ghost use Rattle.rows.specs.Row.{pixelAt};
 ghost use Rattle.listing.specs.Text.{decimal, line, lines, rowTextWithin, refusedWord, refusalLineWithin, Stored, opened};
-
-fn widen(byte: u8) -> u64
-    ensures { λ r. ⌜ (r ≡ byte) × (r < 256) ⌝ }
-{
-    byte as u64
-}
-
-// Code i of a row, high byte first.
-fn code_at(codes: &[u8], i: usize) -> u64
-    requires { ⌜ 2 * i + 2 ≤ length (now codes) ⌝ }
-    ensures { λ r. ⌜ (r ≡ sampleAt (now (codes .entry)) i) × (r < 65536) ⌝ }
-{
-    256 * widen(codes[2 * i]) + widen(codes[2 * i + 1])
-}
+use rows::sample_at;
 
 // One character at a place of the text; the place after it.
 fn put(text: &mut [u8], at: usize, character: u8) -> usize
@@ -77,9 +64,9 @@ fn put_lines(codes: &[u8], text: &mut [u8], pixels: usize) -> usize
     let mut at = 0;
     let mut j = 0;
     while j < pixels {
-        let red = code_at(codes, 3 * j);
-        let green = code_at(codes, 3 * j + 1);
-        let blue = code_at(codes, 3 * j + 2);
+        let red = sample_at(codes, 3 * j);
+        let green = sample_at(codes, 3 * j + 1);
+        let blue = sample_at(codes, 3 * j + 2);
         at = put_line(text, at, red, green, blue);
         j += 1;
     }

@@ -5,6 +5,7 @@ use libc::STDIN_FILENO;
 use libc::STDOUT_FILENO;
 use pq_hlg::PixelAnswer;
 use pq_hlg::convert_pixel;
+use quantity::Source;
 
 fn widen(byte: u8) -> u64 {
     byte as u64
@@ -51,8 +52,11 @@ fn answer_next() -> bool {
     if got != 32 {
         return false;
     }
+    let source = Source {
+        peak: number_at(&question, 0),
+    };
     print_answer(convert_pixel(
-        number_at(&question, 0),
+        source,
         number_at(&question, 8),
         number_at(&question, 16),
         number_at(&question, 24),

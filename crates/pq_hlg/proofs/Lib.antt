@@ -1,4 +1,1 @@
-pub mod CodesLaws
 pub mod TestLaws
-pub mod RowLaws
-pub mod BlockLaws

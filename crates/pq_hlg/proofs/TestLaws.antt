@@ -1,96 +1,69 @@
--- What a passed test says: of a peak, a row's length, a span, and of the answers that the tests give in their order.
-use mathlib.Core.Path.{_≡_, refl, sym, _∙_, ap, subst}
-use mathlib.Core.Bool.{Bool, true, false, cond, not, _||_}
-use mathlib.Core.List.{List}
-use Prim.Native.Nat.{ℕ, _+_, _*_, _-_, _/_, _%_, _≤_}
+-- What a passed test says, of a peak and of the row call's answer, and the destination after each answer.
+use mathlib.Core.Path.{_≡_, sym, _∙_, ap}
+use mathlib.Core.Bool.{false}
+use mathlib.Core.List.{List, _++_}
+use Prim.Native.Nat.{ℕ, _*_, _-_, _≤_}
 use native.Mathlib.Omega.{arith}
 use lib.Dec.{eqb, ltb}
-use lib.ListN.{length}
-use borrow.Author.Tests.{ltb-true, ltb-false, eqb-true, eqb-false, not-false}
-use Rattle.pq_hlg.specs.declared.RowAnswer.{RowAnswer}
-use Rattle.pq_hlg.specs.declared.RowAnswer.the-variants.{Converted, Refused}
-use Rattle.pq_hlg.specs.Pixel.{peakRefused}
-use Rattle.pq_hlg.specs.Row.{firstRefused, lengthRefused, spanRefused, rowAnswer, hostNumber}
-
-neither : (a b : Bool) → a || b ≡ false → (a ≡ false) × (b ≡ false)
-neither true b e = absurd (let n : _≡_ {A = ℕ} 0 1 = cc in omega arith)
-neither false b e = (refl, e)
+use lib.ListN.{length, take, drop, length-take, length-drop}
+use borrow.Author.Tests.{ltb-false, eqb-false}
+use Rattle.quantity.specs.declared.Source.{Source}
+use Rattle.eetf.specs.Curve.{peakRead}
+use Rattle.pixel.specs.Conversion.{code}
+use Rattle.rows.specs.declared.RowAnswer.{RowAnswer}
+use Rattle.rows.specs.declared.RowAnswer.the-variants.{Converted, Refused}
+use Rattle.rows.specs.Row.{spanBytes}
+use Rattle.rows.specs.Answer.{hostNumber}
+use Rattle.rows.proofs.AnswerLaws.{neither, either, refused-not-converted, Accepted, accepted, host-number-fits, refused-after, converted-after}
+use Rattle.span.specs.Span.{convertedInto}
+use Rattle.span.proofs.SpanLaws.{filled}
+use Rattle.pq_hlg.specs.Pixel.{peakRefused, sampleRefused}
+use Rattle.pq_hlg.specs.Row.{rowAnswer, destinationAfter}
 
 pub peak-taken : (peak : ℕ) → peakRefused peak ≡ false → (1 ≤ peak) × (peak ≤ 10000)
 unfolding peakRefused
 peak-taken peak e =
     let t = neither (eqb peak 0) (ltb 10000 peak) e in
-    let n = eqb-false peak 0 (t .0) in
-    let l = ltb-false 10000 peak (t .1) in
-    (above-zero peak n, l)
+    (above-zero peak (eqb-false peak 0 (t .0)), ltb-false 10000 peak (t .1))
   where
     above-zero : (n : ℕ) → (n ≡ 0 → ⊥) → 1 ≤ n
     above-zero n h = omega arith
 
-pub length-taken : (bytes : ℕ) → lengthRefused bytes ≡ false → (bytes % 6 ≡ 0) × (bytes ≤ 49152)
-unfolding lengthRefused
-length-taken bytes e =
-    let t = neither (not (eqb (bytes % 6) 0)) (ltb 49152 bytes) e in
-    (eqb-true (bytes % 6) 0 (not-false (eqb (bytes % 6) 0) (t .0)), ltb-false 49152 bytes (t .1))
+-- a peak that is taken is read as it is
+pub peak-read : (peak : ℕ) → peakRefused peak ≡ false → peakRead peak ≡ peak
+peak-read peak e = let t = peak-taken peak e in omega arith
 
-pub span-taken : (pixels first end : ℕ) → spanRefused pixels first end ≡ false → (first ≤ end) × (end ≤ pixels)
-unfolding spanRefused
-span-taken pixels first end e =
-    let t = neither (ltb end first) (ltb pixels end) e in
-    (ltb-false end first (t .0), ltb-false pixels end (t .1))
+module _ (source : Source) (row : List ℕ) (bytes first end : ℕ) where
+  -- what a row call has tested where it converts
+  pub row-accepted : rowAnswer source row bytes first end ≡ Converted → (peakRefused (source .peak) ≡ false) × Accepted row bytes first end
+  unfolding rowAnswer
+  row-accepted =
+      let P : RowAnswer → Type 0 = λ a. a ≡ Converted → (peakRefused (source .peak) ≡ false) × Accepted row bytes first end in
+      either P (peakRefused (source .peak)) _ _ (λ _. refused-not-converted) (λ p h. (p, accepted sampleRefused row bytes first end h))
 
--- what holds of both answers of a test holds of its answer
-either : (P : RowAnswer → Type 0) (b : Bool) (x y : RowAnswer) → (b ≡ true → P x) → (b ≡ false → P y) → P (cond b x y)
-either P true x y p q = p refl
-either P false x y p q = q refl
+  pub row-number-fits : hostNumber (rowAnswer source row bytes first end) ≤ 6291456
+  unfolding rowAnswer
+  row-number-fits =
+      either (λ a. hostNumber a ≤ 6291456) (peakRefused (source .peak)) _ _ (λ _. omega arith) (λ _. host-number-fits sampleRefused row bytes first end)
 
--- what a row call has tested where it converts
-pub record Accepted (peak : ℕ) (row : List ℕ) (bytes first end : ℕ) : Type 0 where
-  pub peak-range : peak ≤ 10000
-  pub whole : bytes ≡ length row
-  pub ordered : first ≤ end
-  pub within : 6 * end ≤ length row
+-- the destination of a call that is refused, and of one that converts
+module _ (source : Source) (row dst : List ℕ) (first end : ℕ) where
+  pub row-refused : {a : RowAnswer} {number place : ℕ} → a ≡ rowAnswer source row (length dst) first end → a ≡ Refused number place
+      → dst ≡ destinationAfter source row dst first end
+  unfolding destinationAfter
+  row-refused e told = refused-after (code (source .peak)) row dst first end (sym e ∙ told)
 
-refused : {A : Type 0} {number place : ℕ} → Refused number place ≡ Converted → A
-refused e = absurd (let n : _≡_ {A = ℕ} 0 1 = cc in omega arith)
-
-pub accepted : (peak : ℕ) (row : List ℕ) (bytes first end : ℕ) → rowAnswer peak row bytes first end ≡ Converted
-    → Accepted peak row bytes first end
-unfolding rowAnswer
-accepted peak row bytes first end =
-    let i = firstRefused row (3 * first) (3 * (end - first)) in
-    let P : RowAnswer → Type 0 = λ a. a ≡ Converted → Accepted peak row bytes first end in
-    either P (peakRefused peak) _ _ (λ _. refused) (λ a.
-    either P (lengthRefused (length row)) _ _ (λ _. refused) (λ b.
-    either P (not (eqb bytes (length row))) _ _ (λ _. refused) (λ c.
-    either P (spanRefused (length row / 6) first end) _ _ (λ _. refused) (λ d.
-    either P (ltb i (3 * end)) _ _ (λ _. refused) (λ _ _.
-    let s = span-taken (length row / 6) first end d in
-    record {
-      peak-range = peak-taken peak a .1;
-      whole = eqb-true bytes (length row) (not-false (eqb bytes (length row)) c);
-      ordered = s .0;
-      within = omega arith;
-    })))))
-
--- the number for a host, by the answer's case
-pub host-number-is : {a b v : RowAnswer} → a ≡ b → a ≡ v → hostNumber v ≡ hostNumber b
-host-number-is e told = ap hostNumber (sym told ∙ e)
-
--- the number for a host fits: at most 9, and a sample of the longest row
-pub host-number-fits : (peak : ℕ) (row : List ℕ) (bytes first end number place : ℕ)
-    → rowAnswer peak row bytes first end ≡ Refused number place → number + 256 * place ≤ 6291456
-unfolding rowAnswer
-host-number-fits peak row bytes first end number place told =
-    let i = firstRefused row (3 * first) (3 * (end - first)) in
-    let P : RowAnswer → Type 0 = λ a. hostNumber a ≤ 6291456 in
-    subst P told
-    (either P (peakRefused peak) _ _ (λ _. omega arith) (λ a.
-    either P (lengthRefused (length row)) _ _ (λ _. omega arith) (λ b.
-    either P (not (eqb bytes (length row))) _ _ (λ _. omega arith) (λ c.
-    either P (spanRefused (length row / 6) first end) _ _ (λ _. omega arith) (λ d.
-    either P (ltb i (3 * end)) _ _ (λ e.
-    let l = length-taken (length row) b in
-    let s = span-taken (length row / 6) first end d in
-    let k = ltb-true i (3 * end) e in
-    omega arith) (λ _. omega arith))))))
+  pub row-converted : (ys : List ℕ) (to : ℕ) → rowAnswer source row (length dst) first end ≡ Converted
+      → ys ≡ convertedInto source (take (length row - 6 * first) (drop (6 * first) row)) (take (to - 6 * first) (drop (6 * first) dst))
+      → to ≡ 6 * end → take (6 * first) dst ++ (ys ++ drop (to - 6 * first) (drop (6 * first) dst)) ≡ destinationAfter source row dst first end
+  unfolding destinationAfter
+  row-converted ys to e y at-end =
+      let tested = row-accepted source row (length dst) first end e in
+      let k = tested .1 in
+      let src = take (length row - 6 * first) (drop (6 * first) row) in
+      let part = take (to - 6 * first) (drop (6 * first) dst) in
+      let room : length part ≡ 6 * (end - first) = simp (length-take, length-drop) (omega (arith, k .same, k .within)) in
+      let enough : 6 * (end - first) ≤ length src = simp (length-take, length-drop) (omega (arith, k .within)) in
+      let peak = ap (λ (p : ℕ). spanBytes (code p) src 0 (end - first)) (peak-read (source .peak) (tested .0)) in
+      ap (λ (n : ℕ). take (6 * first) dst ++ (ys ++ drop (n - 6 * first) (drop (6 * first) dst))) at-end
+      ∙ converted-after (code (source .peak)) row dst first end ys e (k .ordered) (k .within) (y ∙ filled source src part (end - first) room enough ∙ peak)

@@ -1,3 +1,2 @@
 pub mod Pixel
 pub mod Row
-pub mod Block

@@ -1,24 +1,22 @@
 // The engine's calls: one pixel, a span of a row, and the row call for a host in C. Samples are ten-bit narrow-range code values, PQ in and
 // HLG out; a peak is in whole cd/m2.
-mod block;
-mod codes;
-mod hint_table;
-mod hints;
-mod near;
-mod root;
-mod samples;
-mod span;
-
 ghost use mathlib.Core.Path.{_≡_};
 ghost use lib.ListN.{length};
 ghost use Rattle.quantity.specs.Component.{pixel};
-ghost use Rattle.pq_hlg.specs.Pixel.{pixelAnswer, VotedWhere};
-ghost use Rattle.pq_hlg.specs.Row.{rowAnswer, destinationAfter, hostNumber};
-use codes::pixel_codes;
-use codes::refuses_peak;
-use codes::refuses_sample;
+ghost use Rattle.rows.specs.Answer.{hostNumber};
+ghost use Rattle.pq_hlg.specs.Pixel.{peakRefused, pixelAnswer, VotedWhere};
+ghost use Rattle.pq_hlg.specs.Row.{rowAnswer, destinationAfter, sourceOf};
+use quantity::Source;
+use rows::RowAnswer;
+use rows::is_outside;
+use rows::test_span;
 use span::convert_span;
-use span::test_row;
+use span::pixel_codes;
+
+// The samples that are taken: the interface keeps the codes below and above for its timing.
+const LEAST: u64 = 4;
+
+const MOST: u64 = 1019;
 
 // The HLG codes of a pixel, or a refusal: its number and its place.
 pub enum PixelAnswer {
@@ -26,46 +24,46 @@ pub enum PixelAnswer {
     Refused(u64, u64),
 }
 
-// A span that was converted, or a refusal: its number and its place.
-pub enum RowAnswer {
-    Converted,
-    Refused(u64, u64),
-}
-
 // The HLG codes of one pixel. Refuses 5, then 9; its place is 0 for red, 1 for green, 2 for blue.
-pub fn convert_pixel(peak: u64, red: u64, green: u64, blue: u64) -> PixelAnswer
-    ensures answer { λ r. ⌜ r ≡ pixelAnswer peak (pixel red green blue) ⌝ }
-    ensures voted { λ r. ⌜ VotedWhere r peak (pixel red green blue) ⌝ }
+pub fn convert_pixel(source: Source, red: u64, green: u64, blue: u64) -> PixelAnswer
+    ensures answer { λ r. ⌜ r ≡ pixelAnswer source (pixel red green blue) ⌝ }
+    ensures voted { λ r. ⌜ VotedWhere r source (pixel red green blue) ⌝ }
 {
-    if refuses_peak(peak) {
+    if refuses_peak(source.peak) {
         return PixelAnswer::Refused(5, 0);
     }
-    if refuses_sample(red) {
+    if is_outside(red, LEAST, MOST) {
         return PixelAnswer::Refused(9, 0);
     }
-    if refuses_sample(green) {
+    if is_outside(green, LEAST, MOST) {
         return PixelAnswer::Refused(9, 1);
     }
-    if refuses_sample(blue) {
+    if is_outside(blue, LEAST, MOST) {
         return PixelAnswer::Refused(9, 2);
     }
-    let codes = pixel_codes(peak, red, green, blue);
+    let codes = pixel_codes(source, red, green, blue);
     PixelAnswer::Codes(codes.red, codes.green, codes.blue)
 }
 
 // The pixels first to end - 1 of a row, converted into the same places of a destination, whose other bytes remain. Refuses 5 to 9 and then
 // leaves every byte.
-pub fn convert_row(peak: u64, row: &[u8], dst: &mut [u8], first: usize, end: usize) -> RowAnswer
-    ensures { λ r. ⌜ (r ≡ rowAnswer peak (now (row .entry)) (length (now (dst .entry))) first end)
-        × (now (dst .exit) ≡ destinationAfter peak (now (row .entry)) (now (dst .entry)) first end) ⌝ }
+pub fn convert_row(
+    source: Source,
+    row: &[u8],
+    dst: &mut [u8],
+    first: usize,
+    end: usize,
+) -> RowAnswer
+    ensures { λ r. ⌜ (r ≡ rowAnswer source (now (row .entry)) (length (now (dst .entry))) first end)
+        × (now (dst .exit) ≡ destinationAfter source (now (row .entry)) (now (dst .entry)) first end) ⌝ }
 {
-    let answer = test_row(peak, row, dst.len(), first, end);
+    let answer = test_row(source, row, dst.len(), first, end);
     if let RowAnswer::Refused(_, _) = answer {
         return answer;
     }
     let from = 6 * first;
     let to = 6 * end;
-    convert_span(peak, &row[from..], &mut dst[from..to], end - first);
+    convert_span(source, &row[from..], &mut dst[from..to]);
     RowAnswer::Converted
 }
 
@@ -78,12 +76,32 @@ pub extern "C" fn pq_hlg_convert_row(
     first: usize,
     end: usize,
 ) -> u64
-    ensures { λ r. ⌜ (r ≡ hostNumber (rowAnswer peak (now (row .entry)) (length (now (dst .entry))) first end))
-        × (now (dst .exit) ≡ destinationAfter peak (now (row .entry)) (now (dst .entry)) first end) ⌝ }
+    ensures { λ r. ⌜ (r ≡ hostNumber (rowAnswer (sourceOf peak) (now (row .entry)) (length (now (dst .entry))) first end))
+        × (now (dst .exit) ≡ destinationAfter (sourceOf peak) (now (row .entry)) (now (dst .entry)) first end) ⌝ }
 {
-    let answer = convert_row(peak, row, dst, first, end);
+    let answer = convert_row(Source { peak: peak }, row, dst, first, end);
     match answer {
         RowAnswer::Converted => 0,
         RowAnswer::Refused(number, place) => number + 256 * place,
     }
+}
+
+// The tests of a row call, in order, on a destination of so many bytes.
+fn test_row(source: Source, row: &[u8], bytes: usize, first: usize, end: usize) -> RowAnswer
+    ensures { λ r. ⌜ r ≡ rowAnswer source (now (row .entry)) bytes first end ⌝ }
+{
+    if refuses_peak(source.peak) {
+        return RowAnswer::Refused(5, 0);
+    }
+    test_span(row, bytes, first, end, LEAST, MOST)
+}
+
+// A peak of 0 or above 10,000 cd/m2 is refused.
+fn refuses_peak(peak: u64) -> bool
+    ensures { λ r. ⌜ r ≡ peakRefused peak ⌝ }
+{
+    if peak == 0 {
+        return true;
+    }
+    10000 < peak
 }

@@ -4,11 +4,12 @@ use mathlib.Core.Path.{_≡_, refl, sym, _∙_, ap, ap₂}
 use mathlib.Core.List.{List, [], _∷_, _++_, append-nil, append-assoc}
 use Prim.Native.Nat.{ℕ, zero, suc, _+_, _*_, _-_, _/_, _%_, _≤_, _<_}
 use native.Mathlib.Nat.{zero-add, add-zero, add-suc}
+use native.Mathlib.Decide.{decLt}
 use native.Mathlib.Omega.{arith}
-use lib.ListN.{length, getD, take, drop, set, length-append, length-drop}
-use lib.Seq.{getD-drop, getD-take, take-all}
+use lib.ListN.{length, getD, take, drop, set, length-append, drop-of-length-le, List·getD-append}
+use lib.Seq.{getD-drop, getD-take, getD-append-add}
 use Rattle.laws.proofs.PartLaws.{part-back, part-next}
-use Rattle.quantity.specs.Component.{red, green, blue, Pixel}
+use Rattle.quantity.specs.Component.{Component, red, green, blue, Pixel}
 use Rattle.big_endian.specs.BigEndian.{numberAt}
 use Rattle.rows.specs.Row.{sampleAt, pixelAt, pixelBytes, spanBytes, withSpan}
 
@@ -55,12 +56,13 @@ six-stores (x0 ∷ x1 ∷ x2 ∷ x3 ∷ x4 ∷ []) a b c d e f h = absurd (omega
 six-stores (x0 ∷ x1 ∷ x2 ∷ x3 ∷ x4 ∷ x5 ∷ []) a b c d e f h = refl
 six-stores (x0 ∷ x1 ∷ x2 ∷ x3 ∷ x4 ∷ x5 ∷ x6 ∷ l) a b c d e f h = absurd (omega arith)
 
--- the codes of a pixel stored one after another
-pub pixel-stored : (p : Pixel) (dst : List ℕ) {r g b : ℕ} → length dst ≡ 6 → r ≡ p red → g ≡ p green → b ≡ p blue
-    → set (set (set (set (set (set dst 0 (r / 256)) 1 (r % 256)) 2 (g / 256)) 3 (g % 256)) 4 (b / 256)) 5 (b % 256) ≡ pixelBytes p
+-- the bytes of a pixel stored one after another
+pub pixel-stored : (p : Pixel) (dst : List ℕ) {r r′ g g′ b b′ : ℕ} → length dst ≡ 6
+    → (r ≡ p red / 256) × (r′ ≡ p red % 256) × (g ≡ p green / 256) × (g′ ≡ p green % 256) × (b ≡ p blue / 256) × (b′ ≡ p blue % 256)
+    → set (set (set (set (set (set dst 0 r) 1 r′) 2 g) 3 g′) 4 b) 5 b′ ≡ pixelBytes p
 unfolding pixelBytes
-pixel-stored p dst {r} {g} {b} six er eg eb =
-    six-stores dst (r / 256) (r % 256) (g / 256) (g % 256) (b / 256) (b % 256) six ∙ rw (er, eg, eb)
+pixel-stored p dst {r} {r′} {g} {g′} {b} {b′} six e =
+    six-stores dst r r′ g g′ b b′ six ∙ rw (e .0, e .1, e .2, e .3, e .4, e .5)
 
 module _ (f : Pixel → Pixel) where
   pub length-span : (row : List ℕ) (j n : ℕ) → length (spanBytes f row j n) ≡ 6 * n
@@ -75,7 +77,8 @@ module _ (f : Pixel → Pixel) where
   unfolding spanBytes
   span-of-part row j zero b k e h = refl
   span-of-part row j (suc n) b k e h =
-      ap₂ (λ (x : List ℕ) (p : Pixel). x ++ pixelBytes (f p)) (span-of-part row j n b k e (omega arith)) (pixel-of-part row b k (0 + n) (j + n) (omega arith) (omega arith))
+      let here = pixel-of-part row b k (0 + n) (j + n) (omega arith) (omega arith) in
+      ap₂ (λ (x : List ℕ) (p : Pixel). x ++ pixelBytes (f p)) (span-of-part row j n b k e (omega arith)) here
 
   -- m pixels more
   pub span-further : (row : List ℕ) (n m : ℕ) → spanBytes f row 0 (n + m) ≡ spanBytes f row 0 n ++ spanBytes f row n m
@@ -86,6 +89,20 @@ module _ (f : Pixel → Pixel) where
       ap (spanBytes f row 0) (add-suc n m)
       ∙ ap₂ (λ (x : List ℕ) (p : Pixel). x ++ pixelBytes (f p)) (span-further row n m) here
       ∙ append-assoc (spanBytes f row 0 n) (spanBytes f row n m) (pixelBytes (f (pixelAt row (n + m))))
+
+  -- a span from the first pixel on, one that fills its destination, and one of no pixel
+  pub first-pixels : (row d : List ℕ) (n : ℕ) → withSpan f row d 0 n ≡ spanBytes f row 0 n ++ drop (6 * n) d
+  first-pixels row d n = let e : n - 0 ≡ n = omega arith in ap (λ (k : ℕ). spanBytes f row 0 k ++ drop (6 * n) d) e
+
+  pub all-pixels : (row d : List ℕ) (n : ℕ) → length d ≡ 6 * n → withSpan f row d 0 n ≡ spanBytes f row 0 n
+  all-pixels row d n l =
+      first-pixels row d n
+      ∙ ap (λ (rest : List ℕ). spanBytes f row 0 n ++ rest) (drop-of-length-le d {i = 6 * n} (omega arith))
+      ∙ append-nil (spanBytes f row 0 n)
+
+  pub no-pixels : (row d : List ℕ) (n : ℕ) → n ≡ 0 → d ≡ withSpan f row d 0 n
+  unfolding spanBytes
+  no-pixels row d n e = sym (ap (withSpan f row d 0) e)
 
   -- a span converted from the rest of a row and put in its place
   pub put-span : (row d ys : List ℕ) (first end : ℕ) → first ≤ end → 6 * end ≤ length row
@@ -102,3 +119,51 @@ pub put-pixels : (d d₀ front ys : List ℕ) (j n : ℕ) → d ≡ front ++ dro
 put-pixels d d₀ front ys j n e l =
     let k : 6 * j + 6 * n ≡ 6 * (j + n) = omega arith in
     part-next d d₀ front ys (6 * j) (6 * j + 6 * n) (omega arith) e l ∙ ap (λ (x : ℕ). front ++ ys ++ drop x d₀) k
+
+-- ---- what is read back: a sample of two runs of bytes is one of the first, or one of the second
+sample-before : (xs ys : List ℕ) (k : ℕ) → 2 * k + 1 < length xs → sampleAt (xs ++ ys) k ≡ sampleAt xs k
+unfolding sampleAt numberAt
+sample-before xs ys k h = rw (List·getD-append xs ys 0 (2 * k) (omega arith), List·getD-append xs ys 0 (2 * k + 1) (omega arith))
+
+sample-after : (xs ys : List ℕ) (n k i : ℕ) → length xs ≡ 6 * n → i ≡ 3 * n + k → sampleAt (xs ++ ys) i ≡ sampleAt ys k
+unfolding sampleAt numberAt
+sample-after xs ys n k i l e =
+    let high : 2 * i ≡ length xs + 2 * k = omega arith in
+    let low : 2 * i + 1 ≡ length xs + (2 * k + 1) = omega arith in
+    rw (low, high, getD-append-add xs ys (2 * k) 0, getD-append-add xs ys (2 * k + 1) 0)
+
+pixel-before : (xs ys : List ℕ) (n j : ℕ) → length xs ≡ 6 * n → j < n → (i : Component) → pixelAt (xs ++ ys) j i ≡ pixelAt xs j i
+pixel-before xs ys n j l h red = sample-before xs ys (3 * j) (omega arith)
+pixel-before xs ys n j l h green = sample-before xs ys (3 * j + 1) (omega arith)
+pixel-before xs ys n j l h blue = sample-before xs ys (3 * j + 2) (omega arith)
+
+pixel-after : (xs ys : List ℕ) (n j : ℕ) → length xs ≡ 6 * n → j ≡ n → (i : Component) → pixelAt (xs ++ ys) j i ≡ pixelAt ys 0 i
+pixel-after xs ys n j l h red = sample-after xs ys n (3 * 0) (3 * j) l (omega arith)
+pixel-after xs ys n j l h green = sample-after xs ys n (3 * 0 + 1) (3 * j + 1) l (omega arith)
+pixel-after xs ys n j l h blue = sample-after xs ys n (3 * 0 + 2) (3 * j + 2) l (omega arith)
+
+-- the samples of a pixel's bytes are its codes
+pixel-sample : (p : Pixel) (i : Component) → pixelAt (pixelBytes p) 0 i ≡ p i
+unfolding pixelBytes sampleAt numberAt
+pixel-sample p red = omega arith
+pixel-sample p green = omega arith
+pixel-sample p blue = omega arith
+
+-- the pixels of a converted span are the converted pixels
+pub pixel-of-span : (f : Pixel → Pixel) (row : List ℕ) (n j : ℕ) → j < n → (i : Component) → pixelAt (spanBytes f row 0 n) j i ≡ f (pixelAt row j) i
+unfolding spanBytes
+pixel-of-span f row zero j h i = absurd (omega arith)
+pixel-of-span f row (suc n) j h i = go (decLt j n) (pixel-of-span f row n j)
+  where
+    front : List ℕ
+    front = spanBytes f row 0 n
+
+    last : List ℕ
+    last = pixelBytes (f (pixelAt row (0 + n)))
+
+    go : Dec (j < n) → (j < n → (k : Component) → pixelAt front j k ≡ f (pixelAt row j) k) → pixelAt (front ++ last) j i ≡ f (pixelAt row j) i
+    go (yes l) before = pixel-before front last n j (length-span f row 0 n) l i ∙ before l i
+    go (no l) before =
+        let e : j ≡ n = omega arith in
+        let g : 0 + n ≡ j = omega arith in
+        pixel-after front last n j (length-span f row 0 n) e i ∙ pixel-sample (f (pixelAt row (0 + n))) i ∙ ap (λ (k : ℕ). f (pixelAt row k) i) g

@@ -64,7 +64,7 @@ pub fn refuses_span(pixels: usize, first: usize, end: usize) -> bool
 pub fn first_refused(row: &[u8], from: usize, to: usize, least: u64, most: u64) -> usize
     ensures { λ r. ⌜ r ≡ firstRefused (outside least most) (now (row .entry)) from (min to (length (now (row .entry)) / 2) - from) ⌝ }
 {
-    let last = samples_to(row.len() / 2, to);
+    let last = fewer(to, row.len() / 2);
     let mut i = from;
     while i < last {
         // read from a part of two bytes, whose length needs no test
@@ -76,15 +76,6 @@ pub fn first_refused(row: &[u8], from: usize, to: usize, least: u64, most: u64) 
         i += 1;
     }
     i
-}
-
-fn samples_to(samples: usize, to: usize) -> usize
-    ensures { λ r. ⌜ r ≡ min to samples ⌝ }
-{
-    if to < samples {
-        return to;
-    }
-    samples
 }
 
 // Test 9 of one sample.
@@ -105,4 +96,14 @@ pub fn sample_at(row: &[u8], i: usize) -> u64
         return 0;
     }
     number_at(row, 2 * i)
+}
+
+// The fewer of two counts, of samples, pixels or bytes.
+pub fn fewer(a: usize, b: usize) -> usize
+    ensures { λ r. ⌜ r ≡ min a b ⌝ }
+{
+    if a < b {
+        return a;
+    }
+    b
 }

@@ -12,95 +12,35 @@ use lib.Seq.{getD-append-add}
 use borrow.Author.Tests.{eq-eqb, ne-eqb, lt-ltb, le-ltb}
 use Rattle.quantity.specs.Component.{Component, red, green, blue, Pixel}
 use Rattle.pixel.specs.Conversion.{code}
-use Rattle.pq_hlg.specs.Pixel.{peakRefused}
-use Rattle.pq_hlg.specs.Row.{sampleAt, pixelAt, lengthRefused, rowAnswer, pixelBytes, spanBytes, destinationAfter}
-use Rattle.pq_hlg.specs.declared.RowAnswer.the-variants.{Converted, Refused}
-use Rattle.pq_hlg.proofs.TestLaws.{accepted, length-taken}
-use Rattle.pq_hlg.proofs.RowLaws.{length-span}
+use Rattle.rows.specs.Row.{pixelAt, spanBytes}
+use Rattle.rows.specs.declared.RowAnswer.the-variants.{Converted, Refused}
+use Rattle.rows.proofs.RowLaws.{length-span, pixel-of-span}
+use Rattle.pq_hlg.specs.Row.{rowAnswer, destinationAfter, sourceOf}
+use Rattle.pq_hlg.proofs.TestLaws.{row-accepted}
 use Rattle.listing.specs.Text.{lines, rowText, rowTextWithin, opened}
 use Rattle.listing.proofs.TextLaws.{lines-same}
-use Rattle.title.specs.declared.rows.RowText.{RowText}
-use Rattle.title.specs.declared.rows.RowText.the-variants.{Lines, End, Refused as Stop}
+use Rattle.title.specs.declared.next_row.RowText.{RowText}
+use Rattle.title.specs.declared.next_row.RowText.the-variants.{Lines, End, Refused as Stop}
 use Rattle.title.specs.NextRow.{convertedText, wholeRowAnswer, nextRefusal, isListed, nextText, codesAfter, textLength, NextRow}
-
--- a sample of two runs of bytes is one of the first, or one of the second
-sample-before : (xs ys : List ℕ) (k : ℕ) → 2 * k + 1 < length xs → sampleAt (xs ++ ys) k ≡ sampleAt xs k
-unfolding sampleAt
-sample-before xs ys k h = rw (List·getD-append xs ys 0 (2 * k) (omega arith), List·getD-append xs ys 0 (2 * k + 1) (omega arith))
-
-sample-after : (xs ys : List ℕ) (n k i : ℕ) → length xs ≡ 6 * n → i ≡ 3 * n + k → sampleAt (xs ++ ys) i ≡ sampleAt ys k
-unfolding sampleAt
-sample-after xs ys n k i l e =
-    let high : 2 * i ≡ length xs + 2 * k = omega arith in
-    let low : 2 * i + 1 ≡ length xs + (2 * k + 1) = omega arith in
-    rw (low, high, getD-append-add xs ys (2 * k) 0, getD-append-add xs ys (2 * k + 1) 0)
-
--- the samples of a converted pixel are its codes
-pixel-sample : (peak : ℕ) (p : Pixel) (i : Component) → pixelAt (pixelBytes peak p) 0 i ≡ code peak p i
-unfolding pixelBytes sampleAt
-pixel-sample peak p red = omega arith
-pixel-sample peak p green = omega arith
-pixel-sample peak p blue = omega arith
-
-pixel-before : (xs ys : List ℕ) (n j : ℕ) → length xs ≡ 6 * n → j < n → (i : Component) → pixelAt (xs ++ ys) j i ≡ pixelAt xs j i
-pixel-before xs ys n j l h red = sample-before xs ys (3 * j) (omega arith)
-pixel-before xs ys n j l h green = sample-before xs ys (3 * j + 1) (omega arith)
-pixel-before xs ys n j l h blue = sample-before xs ys (3 * j + 2) (omega arith)
-
-pixel-after : (xs ys : List ℕ) (n j : ℕ) → length xs ≡ 6 * n → j ≡ n → (i : Component) → pixelAt (xs ++ ys) j i ≡ pixelAt ys 0 i
-pixel-after xs ys n j l h red = sample-after xs ys n (3 * 0) (3 * j) l (omega arith)
-pixel-after xs ys n j l h green = sample-after xs ys n (3 * 0 + 1) (3 * j + 1) l (omega arith)
-pixel-after xs ys n j l h blue = sample-after xs ys n (3 * 0 + 2) (3 * j + 2) l (omega arith)
-
--- the pixels of converted bytes are the codes of the row's pixels
-pub converted-pixel : (peak : ℕ) (row : List ℕ) (n j : ℕ) → j < n → (i : Component) → pixelAt (spanBytes peak row 0 n) j i ≡ code peak (pixelAt row j) i
-unfolding spanBytes
-converted-pixel peak row zero j h i = absurd (omega arith)
-converted-pixel peak row (suc n) j h i = go (decLt j n) (converted-pixel peak row n j)
-  where
-    front : List ℕ
-    front = spanBytes peak row 0 n
-
-    last : List ℕ
-    last = pixelBytes peak (pixelAt row (0 + n))
-
-    go : Dec (j < n) → (j < n → (k : Component) → pixelAt front j k ≡ code peak (pixelAt row j) k) → pixelAt (front ++ last) j i ≡ code peak (pixelAt row j) i
-    go (yes l) f = pixel-before front last n j (length-span peak row 0 n) l i ∙ f l i
-    go (no l) f =
-        let e : j ≡ n = omega arith in
-        let g : 0 + n ≡ j = omega arith in
-        pixel-after front last n j (length-span peak row 0 n) e i ∙ pixel-sample peak (pixelAt row (0 + n)) i ∙ ap (λ (k : ℕ). code peak (pixelAt row k) i) g
 
 -- the text of converted bytes, within a buffer
 pub converted-text : (peak : ℕ) (row : List ℕ) (n room : ℕ)
-    → rowTextWithin (spanBytes peak row 0 n) room ≡ cond (leb (18 * n) room) (lines (λ j. code peak (pixelAt row j)) n) []
+    → rowTextWithin (spanBytes (code peak) row 0 n) room ≡ cond (leb (18 * n) room) (lines (λ j. code peak (pixelAt row j)) n) []
 unfolding rowTextWithin rowText
 converted-text peak row n room =
-    let bytes = spanBytes peak row 0 n in
-    let l = length-span peak row 0 n in
+    let bytes = spanBytes (code peak) row 0 n in
+    let l = length-span (code peak) row 0 n in
     let pixels : length bytes / 6 ≡ n = omega arith in
-    simp (eq-eqb (length bytes % 6) 0 (omega arith), pixels, lines-same (pixelAt bytes) (λ j. code peak (pixelAt row j)) n (converted-pixel peak row n))
-
-whole-in : (peak : ℕ) (row : List ℕ) (bytes first end : ℕ) (a b : Bool) → peakRefused peak ≡ a → lengthRefused (length row) ≡ b → rowAnswer peak row bytes first end ≡ Converted → b ≡ false
-unfolding rowAnswer
-whole-in peak row bytes first end true b p q h = let r = simp p at h in let z : _≡_ {A = ℕ} 0 1 = cc in absurd (omega arith)
-whole-in peak row bytes first end false true p q h = let r = simp (p, q) at h in let z : _≡_ {A = ℕ} 0 1 = cc in absurd (omega arith)
-whole-in peak row bytes first end false false p q h = refl
-
--- a row that is converted has whole pixels
-pub whole-pixels : (peak : ℕ) (row : List ℕ) (bytes first end : ℕ) → rowAnswer peak row bytes first end ≡ Converted → length row % 6 ≡ 0
-whole-pixels peak row bytes first end h =
-    length-taken (length row) (whole-in peak row bytes first end (peakRefused peak) (lengthRefused (length row)) refl refl h) .0
+    simp (eq-eqb (length bytes % 6) 0 (omega arith), pixels, lines-same (pixelAt bytes) (λ j. code peak (pixelAt row j)) n (pixel-of-span (code peak) row n))
 
 -- a whole row that is converted fills its destination
-pub whole-destination : (peak : ℕ) (row codes : List ℕ) → rowAnswer peak row (length codes) 0 (length row / 6) ≡ Converted
-    → destinationAfter peak row codes 0 (length row / 6) ≡ spanBytes peak row 0 (length row / 6)
+pub whole-destination : (peak : ℕ) (row codes : List ℕ) → rowAnswer (sourceOf peak) row (length codes) 0 (length row / 6) ≡ Converted
+    → destinationAfter (sourceOf peak) row codes 0 (length row / 6) ≡ spanBytes (code peak) row 0 (length row / 6)
 unfolding destinationAfter
 whole-destination peak row codes h =
-    let k = accepted peak row (length codes) 0 (length row / 6) h in
-    let w = whole-pixels peak row (length codes) 0 (length row / 6) h in
+    let k = row-accepted (sourceOf peak) row (length codes) 0 (length row / 6) h .1 in
     let n : length row / 6 - 0 ≡ length row / 6 = omega arith in
-    simp (h, n, drop-of-length-le codes {i = 6 * (length row / 6)} (omega (arith, k .whole)), append-nil)
+    simp (h, n, drop-of-length-le codes {i = 6 * (length row / 6)} (omega (arith, k .same, k .pixels)), append-nil)
 
 -- each answer keeps the promise: the end, a row cut short, a refusal of the row call, and a row that is listed
 module _ (peak : ℕ) (row : List ℕ) (got : ℕ) (codes text : List ℕ) where
@@ -117,7 +57,7 @@ module _ (peak : ℕ) (row : List ℕ) (got : ℕ) (codes text : List ℕ) where
       let f = lt-ltb got (length row) l in
       record { number = simp (e, f); bytes = simp (e, f); of-codes = simp (e, f); of-text = simp (e, f) }
 
-  module _ (some-byte : got ≡ 0 → ⊥) (all : length row ≤ got) (codes′ : List ℕ) (fills : codes′ ≡ destinationAfter peak row codes 0 (length row / 6)) where
+  module _ (some-byte : got ≡ 0 → ⊥) (all : length row ≤ got) (codes′ : List ℕ) (fills : codes′ ≡ destinationAfter (sourceOf peak) row codes 0 (length row / 6)) where
     pub row-refused : (number place : ℕ) → wholeRowAnswer peak row (length codes) ≡ Refused number place
         → NextRow peak row got codes text (Stop number) codes′ text
     unfolding nextRefusal isListed nextText codesAfter destinationAfter
@@ -133,7 +73,7 @@ module _ (peak : ℕ) (row : List ℕ) (got : ℕ) (codes text : List ℕ) where
     listed n text′ h k t =
         let e = ne-eqb got 0 some-byte in
         let f = le-ltb got (length row) all in
-        let same : codes′ ≡ spanBytes peak row 0 (length row / 6) = fills ∙ whole-destination peak row codes h in
+        let same : codes′ ≡ spanBytes (code peak) row 0 (length row / 6) = fills ∙ whole-destination peak row codes h in
         let words = ap (λ (l : List ℕ). rowTextWithin l (length text)) same ∙ converted-text peak row (length row / 6) (length text) in
         record {
           number = simp (e, f, h);

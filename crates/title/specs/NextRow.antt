@@ -8,12 +8,13 @@ use mathlib.Core.Path.{_≡_}
 use lib.ListN.{length}
 use lib.Dec.{ltb, leb, eqb}
 use Rattle.pixel.specs.Conversion.{code}
-use Rattle.pq_hlg.specs.Row.{pixelAt, rowAnswer, spanBytes}
-use Rattle.pq_hlg.specs.declared.RowAnswer.{RowAnswer}
-use Rattle.pq_hlg.specs.declared.RowAnswer.the-variants as row-call
+use Rattle.rows.specs.Row.{pixelAt, spanBytes}
+use Rattle.rows.specs.declared.RowAnswer.{RowAnswer}
+use Rattle.rows.specs.declared.RowAnswer.the-variants as row-call
+use Rattle.pq_hlg.specs.Row.{rowAnswer, sourceOf}
 use Rattle.listing.specs.Text.{lines, opened}
-use Rattle.title.specs.declared.rows.RowText.{RowText}
-use Rattle.title.specs.declared.rows.RowText.the-variants.{Lines, Refused, End}
+use Rattle.title.specs.declared.next_row.RowText.{RowText}
+use Rattle.title.specs.declared.next_row.RowText.the-variants.{Lines, Refused, End}
 
 -- scope, program: a line for each pixel of a row, of its HLG codes
 unfoldable pub convertedText : ℕ → List ℕ → List ℕ
@@ -30,7 +31,7 @@ refusalNumber (row-call.Refused number place) = number
 
 -- what a call for the whole row answers
 abbrev pub wholeRowAnswer : ℕ → List ℕ → ℕ → RowAnswer
-wholeRowAnswer peak row bytes = rowAnswer peak row bytes 0 (length row / 6)
+wholeRowAnswer peak row bytes = rowAnswer (sourceOf peak) row bytes 0 (length row / 6)
 
 -- scope, What stops a call: the refusal of the next row, 0 where it meets none. No byte means that the title has ended; fewer than the row's mean
 -- refusal 11; then come those of the row call, of which a title can only meet 9.
@@ -55,7 +56,7 @@ nextText peak row got bytes room =
 -- the codes' buffer afterwards
 unfoldable pub codesAfter : ℕ → List ℕ → ℕ → List ℕ → List ℕ
 codesAfter peak row got codes =
-    cond (isListed peak row got (length codes)) (spanBytes peak row 0 (length row / 6)) codes
+    cond (isListed peak row got (length codes)) (spanBytes (code peak) row 0 (length row / 6)) codes
 
 -- scope, What stops a call: the number in an answer, 0 where nothing was refused
 abbrev pub textRefusal : RowText → ℕ

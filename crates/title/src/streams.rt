@@ -3,11 +3,11 @@
 ghost use mathlib.Core.Path.{_≡_};
 ghost use Prim.Native.Nat.{_*_, _≤_};
 ghost use lib.ListN.{length};
+use crate::next_row::RowText;
+use crate::next_row::list_next_row;
 use crate::opening::Opening;
 use crate::opening::bytes_asked;
 use crate::opening::read_opening;
-use crate::rows::RowText;
-use crate::rows::list_next_row;
 use libc::STDERR_FILENO;
 use libc::STDIN_FILENO;
 use libc::STDOUT_FILENO;

@@ -4,7 +4,7 @@ use Prim.Native.Nat.{_*_, _-_, _≤_}
 use native.Mathlib.Omega.{arith}
 use lib.ListN.{length}
 use borrow.Author.Needs.{needs}
-use Rattle.pq_hlg.specs.Row.{pixelAt}
+use Rattle.rows.specs.Row.{pixelAt}
 use Rattle.listing.specs.Text.{lines, Stored}
 use Rattle.listing.proofs.TextLaws.{after, lines-more, line-short}
 use Rattle.listing.proofs.put_lines.Statement.{statement}
@@ -21,48 +21,18 @@ loop-holds : tie.Need-loop-holds Inv-loop μ-loop
 unfolding lines
 loop-holds c = (omega arith, omega arith, refl, record { place = refl; bytes = refl })
 
-mul-code-at : tie.Need-mul-code-at Inv-loop μ-loop
-mul-code-at c = search needs
-
-code-at-requires : tie.Need-code-at-requires Inv-loop μ-loop
-code-at-requires c κs = search needs
-
-mul-code-at-2 : tie.Need-mul-code-at-2 Inv-loop μ-loop
-mul-code-at-2 c = search needs
-
-add-code-at : tie.Need-add-code-at Inv-loop μ-loop
-add-code-at c = search needs
-
-code-at-requires-2 : tie.Need-code-at-requires-2 Inv-loop μ-loop
-code-at-requires-2 c κs = search needs
-
-mul-code-at-3 : tie.Need-mul-code-at-3 Inv-loop μ-loop
-mul-code-at-3 c = search needs
-
-add-code-at-2 : tie.Need-add-code-at-2 Inv-loop μ-loop
-add-code-at-2 c = search needs
-
-code-at-requires-3 : tie.Need-code-at-requires-3 Inv-loop μ-loop
-code-at-requires-3 c κs = search needs
-
 put-line-requires : tie.Need-put-line-requires Inv-loop μ-loop
 put-line-requires c κs =
-    let red = c .before .before .before .code-at in
-    let green = c .before .before .code-at2 in
-    let blue = c .before .code-at3 in
+    let red = c .before .before .before .sample-at in
+    let green = c .before .before .sample-at2 in
+    let blue = c .before .sample-at3 in
     omega (arith, line-short (red .result) (green .result) (blue .result) (red .ensures .1) (green .ensures .1) (blue .ensures .1))
-
-add-j : tie.Need-add-j Inv-loop μ-loop
-add-j c = search needs
-
-loop-less : tie.Need-loop-less Inv-loop μ-loop
-loop-less c = search needs
 
 loop-again : tie.Need-loop-again Inv-loop μ-loop
 loop-again c =
-    let red = c .before .before .before .before .before .before .code-at in
-    let green = c .before .before .before .before .before .code-at2 in
-    let blue = c .before .before .before .before .code-at3 in
+    let red = c .before .before .before .before .before .before .sample-at in
+    let green = c .before .before .before .before .before .sample-at2 in
+    let blue = c .before .before .before .before .sample-at3 in
     let line = c .before .before .put-line .ensures in
     let short = line-short (red .result) (green .result) (blue .result) (red .ensures .1) (green .ensures .1) (blue .ensures .1) in (
       omega arith,
@@ -70,9 +40,6 @@ loop-again c =
       omega arith,
       rw lines-more (after (c .before .before .before .before .before .before .before .before .loop .inv .3) (rw (red .ensures .0, green .ensures .0, blue .ensures .0) at line)),
     )
-
-same-length : tie.Need-same-length Inv-loop μ-loop
-same-length c = search needs
 
 returns : tie.Need-returns Inv-loop μ-loop
 returns c =
@@ -86,17 +53,17 @@ put-lines-spec =
     Inv-loop
     μ-loop
     loop-holds
-    mul-code-at
-    code-at-requires
-    mul-code-at-2
-    add-code-at
-    code-at-requires-2
-    mul-code-at-3
-    add-code-at-2
-    code-at-requires-3
+    (λ c. search needs)
+    (λ c κs. search needs)
+    (λ c. search needs)
+    (λ c. search needs)
+    (λ c κs. search needs)
+    (λ c. search needs)
+    (λ c. search needs)
+    (λ c κs. search needs)
     put-line-requires
-    add-j
-    loop-less
+    (λ c. search needs)
+    (λ c. search needs)
     loop-again
-    same-length
+    (λ c. search needs)
     returns)

@@ -1,9 +1,10 @@
 -- `pq_hlg::convert_pixel` meets its contract: each return follows from the tests before it, and demand 3 of an accepted pixel from its theorem.
-use mathlib.Core.Path.{sym, _∙_}
+use mathlib.Core.Path.{_≡_, sym, _∙_}
+use mathlib.Core.Bool.{false}
 use borrow.Author.Needs.{needs}
-use Rattle.pq_hlg.specs.Pixel.{pixelAnswer, VotedWhere}
+use Rattle.pq_hlg.specs.Pixel.{peakRefused, pixelAnswer, VotedWhere}
 use Rattle.distance.proofs.Theorem.{voted}
-use Rattle.pq_hlg.proofs.TestLaws.{peak-taken}
+use Rattle.pq_hlg.proofs.TestLaws.{peak-taken, peak-read}
 use Rattle.pq_hlg.proofs.convert_pixel.Statement.{statement}
 use Rattle.pq_hlg.proofs.convert_pixel.Tie as tie
 
@@ -14,7 +15,7 @@ returns c = (simp (sym (c .before .refuses-peak .ensures), c .if1 .taken), tt)
 returns-2 : tie.Need-returns-2
 unfolding pixelAnswer VotedWhere
 returns-2 c =
-    (simp (sym (c .before .before .before .refuses-peak .ensures), c .before .before .if1 .left, sym (c .before .refuses-sample .ensures), c .if2 .taken), tt)
+    (simp (sym (c .before .before .before .refuses-peak .ensures), c .before .before .if1 .left, sym (c .before .is-outside .ensures), c .if2 .taken), tt)
 
 returns-3 : tie.Need-returns-3
 unfolding pixelAnswer VotedWhere
@@ -22,9 +23,9 @@ returns-3 c = (
   simp (
     sym (c .before .before .before .before .before .refuses-peak .ensures),
     c .before .before .before .before .if1 .left,
-    sym (c .before .before .before .refuses-sample .ensures),
+    sym (c .before .before .before .is-outside .ensures),
     c .before .before .if2 .left,
-    sym (c .before .refuses-sample2 .ensures),
+    sym (c .before .is-outside2 .ensures),
     c .if3 .taken,
   ),
   tt,
@@ -36,39 +37,38 @@ returns-4 c = (
   simp (
     sym (c .before .before .before .before .before .before .before .refuses-peak .ensures),
     c .before .before .before .before .before .before .if1 .left,
-    sym (c .before .before .before .before .before .refuses-sample .ensures),
+    sym (c .before .before .before .before .before .is-outside .ensures),
     c .before .before .before .before .if2 .left,
-    sym (c .before .before .before .refuses-sample2 .ensures),
+    sym (c .before .before .before .is-outside2 .ensures),
     c .before .before .if3 .left,
-    sym (c .before .refuses-sample3 .ensures),
+    sym (c .before .is-outside3 .ensures),
     c .if4 .taken,
   ),
   tt,
 )
 
-pixel-codes-requires : tie.Need-pixel-codes-requires
-pixel-codes-requires c κs =
-    let tested = c .before .before .before .before .before .before in
-    peak-taken _ (sym (tested .before .refuses-peak .ensures) ∙ tested .if1 .left) .1
+-- the peak has passed its test
+taken : (c : tie.After-pixel-codes) → peakRefused (c .before .before .before .before .before .before .before .before .before .args .source .peak) ≡ false
+taken c = let tested = c .before .before .before .before .before .before .before in sym (tested .before .refuses-peak .ensures) ∙ tested .if1 .left
 
 returns-5 : tie.Need-returns-5
 unfolding pixelAnswer VotedWhere
 returns-5 c =
-    let tested = c .before .before .before .before .before .before .before in (
+    let codes = rw (peak-read _ (taken c)) at (c .pixel-codes .ensures) in (
       simp (
         sym (c .before .before .before .before .before .before .before .before .refuses-peak .ensures),
         c .before .before .before .before .before .before .before .if1 .left,
-        sym (c .before .before .before .before .before .before .refuses-sample .ensures),
+        sym (c .before .before .before .before .before .before .is-outside .ensures),
         c .before .before .before .before .before .if2 .left,
-        sym (c .before .before .before .before .refuses-sample2 .ensures),
+        sym (c .before .before .before .before .is-outside2 .ensures),
         c .before .before .before .if3 .left,
-        sym (c .before .before .refuses-sample3 .ensures),
+        sym (c .before .before .is-outside3 .ensures),
         c .before .if4 .left,
-        c .pixel-codes .ensures .0,
-        c .pixel-codes .ensures .1,
-        c .pixel-codes .ensures .2,
+        codes .0,
+        codes .1,
+        codes .2,
       ),
-      voted _ _ (peak-taken _ (sym (tested .before .refuses-peak .ensures) ∙ tested .if1 .left) .1),
+      voted _ _ (peak-taken _ (taken c) .1),
     )
 
 pub convert-pixel-spec : {M : Type 1} → statement M
@@ -83,5 +83,5 @@ convert-pixel-spec =
     returns-3
     (λ c κs. search needs)
     returns-4
-    pixel-codes-requires
+    (λ c κs. search needs)
     returns-5)

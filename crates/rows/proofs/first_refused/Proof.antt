@@ -20,27 +20,28 @@ abbrev μ-loop : tie.MeasureT-loop
 -- the whole search goes by the test of sample i
 by-sample : (c : tie.After-is-outside Inv-loop μ-loop) → let a = c .before .before .before .before .before .before .before .args in
     let i = c .before .before .before .before .loop .i in
-    let last = c .before .before .before .before .before .samples-to .result in
+    let last = c .before .before .before .before .before .fewer .result in
     firstRefused (outside (a .least) (a .most)) (a .row .now) (a .from) (last - a .from)
     ≡ cond (c .is-outside .result) i (firstRefused (outside (a .least) (a .most)) (a .row .now) (i + 1) (last - (i + 1)))
 by-sample c =
     let a = c .before .before .before .before .before .before .before .args in
     let loop = c .before .before .before .before .loop in
-    let last = c .before .before .before .before .before .samples-to .result in
-    let sample = c .before .sample-at .ensures .0 ∙ sample-of-part (a .row .now) (2 * loop .i) (2 * loop .i + 2 - 2 * loop .i) 0 (loop .i) (omega arith) (omega arith) in
+    let last = c .before .before .before .before .before .fewer .result in
+    let two = 2 * loop .i + 2 - 2 * loop .i in
+    let sample = c .before .sample-at .ensures .0 ∙ sample-of-part (a .row .now) (2 * loop .i) two 0 (loop .i) (omega arith) (omega arith) in
     loop .inv
     ∙ refused-here (outside (a .least) (a .most)) (a .row .now) (loop .i) last (omega arith)
     ∙ simp (sym sample, sym (c .is-outside .ensures))
 
 returns : tie.Need-returns Inv-loop μ-loop
-returns c = sym (rw (sym (c .before .before .before .before .before .before .samples-to .ensures)) (by-sample (c .before) ∙ simp (c .if1 .taken)))
+returns c = sym (rw (sym (c .before .before .before .before .before .before .fewer .ensures)) (by-sample (c .before) ∙ simp (c .if1 .taken)))
 
 loop-again : tie.Need-loop-again Inv-loop μ-loop
 loop-again c = by-sample (c .before) ∙ simp (c .if1 .left)
 
 returns-2 : tie.Need-returns-2 Inv-loop μ-loop
 returns-2 c =
-    let last = c .before .before .samples-to in
+    let last = c .before .before .fewer in
     sym (rw (sym (last .ensures)) (c .before .loop .inv ∙ refused-none _ _ (c .before .loop .i) (last .result - c .before .loop .i) (omega arith)))
 
 pub first-refused-spec : {M : Type 1} → statement M

@@ -1,0 +1,148 @@
+-- Laws of a block's passes: one pixel more mapped, one root more, and the bytes of the mapped pixels as those of the span.
+use mathlib.Core.Path.{_≡_, refl, sym, _∙_, ap, ap₂}
+use mathlib.Core.List.{List, _++_}
+use Prim.Native.Nat.{ℕ, zero, suc, _+_, _*_, _≤_, _<_}
+use native.Mathlib.Nat.{zero-add}
+use native.Mathlib.Numerals.{add-one}
+use native.Mathlib.Omega.{arith}
+use borrow.Author.Count.{below-none, below-more}
+use lib.ListN.{length, getD, set, length-set, length-append}
+use lib.Seq.{getD-set-same, getD-set-other}
+use Rattle.quantity.specs.Units.{thousand}
+use Rattle.quantity.specs.Component.{Component, red, green, blue, Pixel, pixel}
+use Rattle.position.proofs.LightLaws.{code-light-at, first-light}
+use Rattle.hlg.specs.Code.{luminance, HlgCodes}
+use Rattle.hlg.specs.Root.{IsRoot}
+use Rattle.hlg.proofs.CodeLaws.{code-to, code-black}
+use Rattle.pixel.specs.Conversion.{brightestLight, mapped, code}
+use Rattle.pixel.proofs.PixelLaws.{mapped-dark, mapped-at-most}
+use Rattle.rows.specs.Row.{pixelAt, pixelBytes, spanBytes}
+use Rattle.span.specs.Block.{HasMapped, wordsAt, luminanceAt, MappedTo, Within, RootsTo, codedBytes, blockBytes}
+
+-- black is mapped to no light
+no-light : brightestLight (pixel 64 64 64) ≡ 0
+unfolding brightestLight
+no-light = omega (arith, code-light-at 64, first-light)
+
+pub black-mapped : (peak : ℕ) {r g b x y z : ℕ} → r ≡ 64 → g ≡ 64 → b ≡ 64 → x ≡ 0 → y ≡ 0 → z ≡ 0 → HasMapped peak r g b x y z
+black-mapped peak er eg eb ex ey ez =
+    let dark : (i : Component) → 0 ≡ mapped peak (pixel 64 64 64) i = λ i. sym (mapped-dark peak (pixel 64 64 64) no-light i) in
+    rw (er, eg, eb, ex, ey, ez) (record { red = dark red; green = dark green; blue = dark blue })
+
+-- three words stored one after another
+abbrev stored : List ℕ → ℕ → ℕ → ℕ → ℕ → List ℕ
+stored l i x y z = set (set (set l i x) (i + 1) y) (i + 2) z
+
+module _ (l : List ℕ) (i x y z : ℕ) where
+  stored-before : (k : ℕ) → k < i → getD (stored l i x y z) k 0 ≡ getD l k 0
+  stored-before k h =
+      getD-set-other (set (set l i x) (i + 1) y) (i + 2) k z 0 (λ e. omega arith)
+      ∙ getD-set-other (set l i x) (i + 1) k y 0 (λ e. omega arith)
+      ∙ getD-set-other l i k x 0 (λ e. omega arith)
+
+  stored-first : i < length l → getD (stored l i x y z) i 0 ≡ x
+  stored-first h =
+      getD-set-other (set (set l i x) (i + 1) y) (i + 2) i z 0 (λ e. omega arith)
+      ∙ getD-set-other (set l i x) (i + 1) i y 0 (λ e. omega arith)
+      ∙ getD-set-same l i x 0 h
+
+  stored-second : i + 1 < length l → getD (stored l i x y z) (i + 1) 0 ≡ y
+  stored-second h =
+      getD-set-other (set (set l i x) (i + 1) y) (i + 2) (i + 1) z 0 (λ e. omega arith)
+      ∙ getD-set-same (set l i x) (i + 1) y 0 (simp length-set h)
+
+  stored-third : i + 2 < length l → getD (stored l i x y z) (i + 2) 0 ≡ z
+  stored-third h = getD-set-same (set (set l i x) (i + 1) y) (i + 2) z 0 (simp length-set h)
+
+module _ (l : List ℕ) (j x y z : ℕ) where
+  words-before : (k : ℕ) → k < j → (i : Component) → wordsAt (stored l (3 * j) x y z) k i ≡ wordsAt l k i
+  words-before k h red = stored-before l (3 * j) x y z (3 * k) (omega arith)
+  words-before k h green = stored-before l (3 * j) x y z (3 * k + 1) (omega arith)
+  words-before k h blue = stored-before l (3 * j) x y z (3 * k + 2) (omega arith)
+
+  words-here : 3 * j + 2 < length l → (i : Component) → wordsAt (stored l (3 * j) x y z) j i ≡ pixel x y z i
+  words-here h red = stored-first l (3 * j) x y z (omega arith)
+  words-here h green = stored-second l (3 * j) x y z (omega arith)
+  words-here h blue = stored-third l (3 * j) x y z h
+
+-- no pixel mapped, and one more
+pub mapped-none : (peak : ℕ) (row words : List ℕ) → MappedTo peak row words 0
+unfolding MappedTo
+mapped-none peak row words = below-none _
+
+pub mapped-more : (peak : ℕ) (row words : List ℕ) (j : ℕ) {r g b x y z : ℕ}
+    → MappedTo peak row words j → pixel r g b ≡ pixelAt row j → HasMapped peak r g b x y z
+    → 3 * j + 2 < length words → MappedTo peak row (set (set (set words (3 * j) x) (3 * j + 1) y) (3 * j + 2) z) (j + 1)
+unfolding MappedTo
+mapped-more peak row words j {r} {g} {b} {x} {y} {z} before p m room =
+    let here : (i : Component) → pixel x y z i ≡ mapped peak (pixel r g b) i = elim [ red ↦ m .red | green ↦ m .green | blue ↦ m .blue ] in
+    below-more _ j (λ k h i. words-before words j x y z k h i ∙ before k h i)
+    (λ i. words-here words j x y z room i ∙ here i ∙ ap (λ (q : Pixel). mapped peak q i) p)
+
+-- a mapped component is at most 1,000 cd/m2
+pub within-mapped : (peak : ℕ) (row words : List ℕ) (n : ℕ) → MappedTo peak row words n → Within words n
+unfolding MappedTo Within
+within-mapped peak row words n m j h i = rw (m j h i) (mapped-at-most peak (pixelAt row j) i)
+
+pub within-at : (words : List ℕ) (n j : ℕ) → Within words n → j < n → (i : Component) → wordsAt words j i ≤ thousand
+unfolding Within
+within-at words n j w h i = w j h i
+
+-- no root found, and one more
+pub roots-none : (words roots : List ℕ) → RootsTo words roots 0
+unfolding RootsTo
+roots-none words roots = below-none _
+
+pub roots-more : (words roots : List ℕ) (j g : ℕ) → RootsTo words roots j → IsRoot g (luminanceAt words j) → j < length roots
+    → RootsTo words (set roots j g) (j + 1)
+unfolding RootsTo
+roots-more words roots j g before here room =
+    below-more _ j (λ k h. rw (getD-set-other roots j k g 0 (λ e. omega arith)) (before k h)) (rw (getD-set-same roots j g 0 room) here)
+
+-- the bytes of the mapped pixels are those of the span
+coded-is-pixel : (peak : ℕ) (p q : Pixel) → ((i : Component) → p i ≡ mapped peak q i) → codedBytes p ≡ pixelBytes (code peak q)
+unfolding codedBytes pixelBytes code
+coded-is-pixel peak p q e = rw (e red, e green, e blue)
+
+pub block-is-span : (peak : ℕ) (row words : List ℕ) (n : ℕ) → MappedTo peak row words n → blockBytes words n ≡ spanBytes (code peak) row 0 n
+unfolding MappedTo blockBytes spanBytes
+block-is-span peak row words zero m = refl
+block-is-span peak row words (suc n) m =
+    let here = coded-is-pixel peak (wordsAt words n) (pixelAt row n) (m n (omega arith)) in
+    let at : pixelAt row n ≡ pixelAt row (0 + n) = ap (pixelAt row) (sym (zero-add n)) in
+    ap₂ (λ (l r : List ℕ). l ++ r) (block-is-span peak row words n (λ k h. m k (omega arith))) (here ∙ ap (λ (p : Pixel). pixelBytes (code peak p)) at)
+
+-- the bytes of one pixel more
+pub block-more : (words : List ℕ) (n : ℕ) → blockBytes words (n + 1) ≡ blockBytes words n ++ codedBytes (wordsAt words n)
+unfolding blockBytes
+block-more words n = ap (blockBytes words) (add-one n)
+
+length-coded : (p : Pixel) → length (codedBytes p) ≡ 6
+unfolding codedBytes pixelBytes
+length-coded p = refl
+
+pub length-block : (words : List ℕ) (n : ℕ) → length (blockBytes words n) ≡ 6 * n
+unfolding blockBytes
+length-block words zero = refl
+length-block words (suc n) =
+    length-append (blockBytes words n) (codedBytes (wordsAt words n)) ∙ omega (arith, length-block words n, length-coded (wordsAt words n))
+
+-- codes fit ten bits, and their bytes are those of the block
+pub codes-fit : {R G B r g b : ℕ} → HlgCodes R G B r g b → (r ≤ 1019) × (g ≤ 1019) × (b ≤ 1019)
+codes-fit {R} {G} {B} h =
+    let top = code-to (luminance R G B) in
+    (omega (arith, h .red, top R), omega (arith, h .green, top G), omega (arith, h .blue, top B))
+
+pub coded-bytes : (p : Pixel) {r g b : ℕ} → HlgCodes (p red) (p green) (p blue) r g b → pixelBytes (pixel r g b) ≡ codedBytes p
+unfolding codedBytes pixelBytes
+coded-bytes p h = rw (h .red, h .green, h .blue)
+
+-- no light has the codes of black
+pub black-coded : {R G B r g b : ℕ} → R ≡ 0 → G ≡ 0 → B ≡ 0 → r ≡ 64 → g ≡ 64 → b ≡ 64 → HlgCodes R G B r g b
+black-coded eR eG eB er eg eb =
+    let dark = sym (code-black (luminance 0 0 0)) in
+    rw (eR, eG, eB, er, eg, eb) (record { red = dark; green = dark; blue = dark })
+
+pub roots-at : (words roots : List ℕ) (n j : ℕ) → RootsTo words roots n → j < n → IsRoot (getD roots j 0) (luminanceAt words j)
+unfolding RootsTo
+roots-at words roots n j r h = r j h

@@ -1,0 +1,74 @@
+-- `span::block::map_pixels` meets its contract. The invariant: the first j pixels are mapped to the words, and the last pixel to its components.
+-- The measure is the number of pixels left.
+use mathlib.Core.Path.{_≡_, refl}
+use Prim.Native.Nat.{_+_, _*_, _-_, _≤_}
+use native.Mathlib.Omega.{arith}
+use lib.ListN.{length, length-take, length-drop, length-set}
+use borrow.Author.Needs.{needs}
+use Rattle.quantity.specs.Component.{pixel}
+use Rattle.rows.specs.Row.{pixelAt}
+use Rattle.span.specs.Block.{HasMapped, MappedTo}
+use Rattle.rows.proofs.RowLaws.{pixel-of-part}
+use Rattle.span.proofs.BlockLaws.{black-mapped, mapped-none, mapped-more}
+use Rattle.span.proofs.block.map_pixels.Statement.{statement}
+use Rattle.span.proofs.block.map_pixels.Tie as tie
+
+abbrev Inv-loop : tie.InvT-loop
+Inv-loop lights hints w peak src words₀ pixels last₀ j₀ words last j = (j ≤ pixels) × (length words ≡ 96) × MappedTo peak src words j
+    × HasMapped peak (last .red) (last .green) (last .blue) (last .mapped .red) (last .mapped .green) (last .mapped .blue)
+
+abbrev μ-loop : tie.MeasureT-loop
+μ-loop lights hints w peak src words₀ pixels last₀ j₀ words last j = pixels - j
+
+loop-holds : tie.Need-loop-holds Inv-loop μ-loop
+loop-holds c =
+    let start = c .before .before in
+    let k = c .mapped-black .ensures in
+    (omega arith, start .pre .4, mapped-none _ _ _, black-mapped (start .args .peak) (k .0) (k .1) (k .2) (k .3) (k .4) (k .5))
+
+map-next-requires : tie.Need-map-next-requires Inv-loop μ-loop
+map-next-requires c κs =
+    let start = c .before .before .before .before .before in
+    (start .pre .0, start .pre .1, simp (length-take, length-drop) (omega arith), c .before .before .loop .inv .3)
+
+loop-again : tie.Need-loop-again Inv-loop μ-loop
+loop-again c =
+    let src = c .before .before .before .before .before .before .before .args .src .now in
+    let loop = c .before .before .before .before .loop in
+    let n = c .before .map-next .ensures in
+    let p : pixel (c .before .map-next .result .red) (c .before .map-next .result .green) (c .before .map-next .result .blue) ≡ pixelAt src (loop .j) =
+    rw (n .0, n .1, n .2) (pixel-of-part src (6 * loop .j) (6 * loop .j + 6 - 6 * loop .j) 0 (loop .j) (omega arith) (omega arith)) in
+    (omega arith, simp length-set (loop .inv .1), mapped-more _ _ _ _ (loop .inv .2) p (n .3) (omega arith), n .3)
+
+returns : tie.Need-returns Inv-loop μ-loop
+returns c = let e : c .before .loop .j ≡ c .before .before .before .before .args .pixels = omega arith in rw e at (c .before .loop .inv .2)
+
+pub map-pixels-spec : {M : Type 1} → statement M
+map-pixels-spec =
+    tie.close
+    (tie.spec
+    Inv-loop
+    μ-loop
+    (λ c κs. search needs)
+    loop-holds
+    (λ c. search needs)
+    (λ c. search needs)
+    (λ c. search needs)
+    (λ c. search needs)
+    (λ c. search needs)
+    map-next-requires
+    (λ c. search needs)
+    (λ c. search needs)
+    (λ c. search needs)
+    (λ c. search needs)
+    (λ c. search needs)
+    (λ c. search needs)
+    (λ c. search needs)
+    (λ c. search needs)
+    (λ c. search needs)
+    (λ c. search needs)
+    (λ c. search needs)
+    (λ c. search needs)
+    (λ c. search needs)
+    loop-again
+    returns)

@@ -1,0 +1,80 @@
+-- `span::convert_blocks` meets its contract. The invariant: the destination holds the first j pixels converted and then its own bytes.
+-- The measure is the number of pixels left.
+use mathlib.Core.Path.{_≡_, refl, sym, _∙_, ap}
+use mathlib.Core.List.{List, _++_}
+use Prim.Native.Nat.{ℕ, _+_, _*_, _-_, _≤_}
+use native.Mathlib.Omega.{arith}
+use lib.ListN.{length, take, drop, length-take, length-drop}
+use borrow.Rule.Slice.PartMut.{same-len-mid}
+use Rattle.pixel.specs.Conversion.{code}
+use Rattle.rows.specs.Row.{spanBytes}
+use Rattle.rows.proofs.RowLaws.{span-of-part, span-further, length-span, put-pixels}
+use Rattle.span.proofs.convert_blocks.Statement.{statement}
+use Rattle.span.proofs.convert_blocks.Tie as tie
+
+abbrev Inv-loop : tie.InvT-loop
+Inv-loop lights steps hints w peak src dst₀ pixels j₀ dst j =
+    (j ≤ pixels) × (length dst ≡ length dst₀) × (dst ≡ spanBytes (code peak) src 0 j ++ drop (6 * j) dst₀)
+
+abbrev μ-loop : tie.MeasureT-loop
+μ-loop lights steps hints w peak src dst₀ pixels j₀ dst j = pixels - j
+
+loop-holds : tie.Need-loop-holds Inv-loop μ-loop
+unfolding spanBytes
+loop-holds c = (omega arith, refl, refl)
+
+convert-block-requires : tie.Need-convert-block-requires Inv-loop μ-loop
+convert-block-requires c κs =
+    let pre = c .before .before .before .before .before .before .before .pre in
+    (pre .0, pre .1, pre .2, omega arith, simp (length-take, length-drop) (omega arith), simp (length-take, length-drop) (omega arith))
+
+loop-again : tie.Need-loop-again Inv-loop μ-loop
+loop-again c =
+    let a = c .before .before .before .before .before .before .before .before .before .before .args in
+    let loop = c .before .before .before .before .before .before .before .loop in
+    let n = c .before .before .before .before .before .fewer .result in
+    let ys = c .before .before .convert-block .last .1 .1 .1 .1 .1 .1 .0 in
+    let front = spanBytes (code (a .peak)) (a .src .now) 0 (loop .j) in
+    let y : ys ≡ spanBytes (code (a .peak)) (a .src .now) (loop .j) n =
+    c .before .before .convert-block .ensures
+    ∙ span-of-part (code (a .peak)) (a .src .now) (loop .j) n (6 * loop .j) (6 * loop .j + 6 * n - 6 * loop .j) refl (omega arith) in
+    let put =
+    put-pixels (loop .dst) (a .dst .now) front ys (loop .j) n (loop .inv .2) (length-span (code (a .peak)) (a .src .now) 0 (loop .j))
+    ∙ ap (λ (l : List ℕ). (front ++ l) ++ drop (6 * (loop .j + n)) (a .dst .now)) y
+    ∙ sym (ap (λ (l : List ℕ). l ++ drop (6 * (loop .j + n)) (a .dst .now)) (span-further (code (a .peak)) (a .src .now) (loop .j) n)) in
+    let same = same-len-mid (6 * loop .j) (6 * loop .j + 6 * n - 6 * loop .j) (loop .dst) ys (c .before .before .convert-block .kept .1 .1 .1 .1 .1 .1 .0) in
+    (omega arith, same ∙ loop .inv .1, put)
+
+same-length : tie.Need-same-length Inv-loop μ-loop
+same-length c = c .before .loop .inv .1
+
+returns : tie.Need-returns Inv-loop μ-loop
+returns c =
+    let a = c .before .before .before .before .args in
+    let j : c .before .loop .j ≡ a .pixels = omega arith in
+    c .before .loop .inv .2 ∙ ap (λ (n : ℕ). spanBytes (code (a .peak)) (a .src .now) 0 n ++ drop (6 * n) (a .dst .now)) j
+
+pub convert-blocks-spec : {M : Type 1} → statement M
+convert-blocks-spec =
+    tie.close
+    (tie.spec
+    Inv-loop
+    μ-loop
+    loop-holds
+    (λ c. omega arith)
+    (λ c κs. tt)
+    (λ c. omega arith)
+    (λ c. omega arith)
+    (λ c. omega arith)
+    (λ c. omega arith)
+    (λ c. omega arith)
+    (λ c. omega arith)
+    (λ c. omega arith)
+    (λ c. omega arith)
+    (λ c. omega arith)
+    convert-block-requires
+    (λ c. omega arith)
+    (λ c. omega arith)
+    loop-again
+    same-length
+    returns)

@@ -1,0 +1,45 @@
+-- What the three passes over a block of pixels hold, for the private functions that make them. No public call cites it. A word is a mapped component
+-- in units, three words to a pixel.
+use mathlib.Core.Path.{_≡_}
+use mathlib.Core.List.{List, [], _++_}
+use Prim.Native.Nat.{ℕ, zero, suc, _+_, _*_, _≤_, _<_}
+use lib.ListN.{getD}
+use Rattle.quantity.specs.Units.{thousand}
+use Rattle.quantity.specs.Component.{Component, red, green, blue, Pixel, pixel}
+use Rattle.hlg.specs.Code.{luminance, hlgCode}
+use Rattle.hlg.specs.Root.{IsRoot}
+use Rattle.pixel.specs.Conversion.{mapped}
+use Rattle.rows.specs.Row.{pixelAt, pixelBytes}
+
+-- x, y, z are the mapped components of the pixel r g b
+pub record HasMapped (peak r g b x y z : ℕ) : Type 0 where
+  pub red : x ≡ mapped peak (pixel r g b) red
+  pub green : y ≡ mapped peak (pixel r g b) green
+  pub blue : z ≡ mapped peak (pixel r g b) blue
+
+-- the three words of pixel j, and their luminance
+abbrev pub wordsAt : List ℕ → ℕ → Pixel
+wordsAt words j = pixel (getD words (3 * j) 0) (getD words (3 * j + 1) 0) (getD words (3 * j + 2) 0)
+
+abbrev pub luminanceAt : List ℕ → ℕ → ℕ
+luminanceAt words j = luminance (wordsAt words j red) (wordsAt words j green) (wordsAt words j blue)
+
+-- the first n pixels of a row are mapped to the words
+unfoldable pub MappedTo : ℕ → List ℕ → List ℕ → ℕ → Type 0
+MappedTo peak row words n = (j : ℕ) → j < n → (i : Component) → wordsAt words j i ≡ mapped peak (pixelAt row j) i
+
+-- the words of the first n pixels are at most 1,000 cd/m2
+unfoldable pub Within : List ℕ → ℕ → Type 0
+Within words n = (j : ℕ) → j < n → (i : Component) → wordsAt words j i ≤ thousand
+
+-- the luminances of the first n pixels have these roots
+unfoldable pub RootsTo : List ℕ → List ℕ → ℕ → Type 0
+RootsTo words roots n = (j : ℕ) → j < n → IsRoot (getD roots j 0) (luminanceAt words j)
+
+-- the bytes of the HLG codes of three mapped components, and of the first n pixels
+unfoldable pub codedBytes : Pixel → List ℕ
+codedBytes p = pixelBytes (λ i. hlgCode (luminance (p red) (p green) (p blue)) (p i))
+
+unfoldable pub blockBytes : List ℕ → ℕ → List ℕ
+blockBytes words zero = []
+blockBytes words (suc n) = blockBytes words n ++ codedBytes (wordsAt words n)

@@ -1,0 +1,18 @@
+-- The conversion of any pixels under any declared peak (scope, HLG code; Reviewer's questions: a stage reads its range's nearer end). The peak is in
+-- whole cd/m2, codes are ten-bit, lists are bytes.
+use mathlib.Core.List.{List}
+use Prim.Native.Nat.{ℕ, min, _/_}
+use lib.ListN.{length}
+use Rattle.quantity.specs.declared.Source.{Source}
+use Rattle.quantity.specs.Component.{Pixel}
+use Rattle.eetf.specs.Curve.{peakRead}
+use Rattle.pixel.specs.Conversion.{code}
+use Rattle.rows.specs.Row.{withSpan}
+
+-- the HLG codes of a pixel under the declared peak as it is read
+abbrev pub codesUnder : Source → Pixel → Pixel
+codesUnder source = code (peakRead (source .peak))
+
+-- a destination that was filled from src: as many whole pixels as both have, the other bytes as they were
+abbrev pub convertedInto : Source → List ℕ → List ℕ → List ℕ
+convertedInto source src dst = withSpan (codesUnder source) src dst 0 (min (length src) (length dst) / 6)

@@ -1,0 +1,270 @@
+// A block of up to 32 pixels of a span, in three passes: mapped components, roots of their luminances, codes. Within a pass no pixel waits for another, so
+// a processor works on several at once. A pixel that equals the one before it takes over what that was given: flat areas are mostly such pixels.
+ghost use mathlib.Core.Path.{_≡_};
+ghost use Prim.Native.Nat.{_*_, _≤_};
+ghost use lib.ListN.{length};
+ghost use Rattle.quantity.specs.Units.{units, thousand};
+ghost use Rattle.quantity.specs.Component.{pixel};
+ghost use Rattle.pq.specs.LightTable.{lightTable};
+ghost use Rattle.position.specs.Position.{positionOf};
+ghost use Rattle.hlg_steps.specs.StepTable.{stepTable};
+ghost use Rattle.hlg.specs.Code.{luminance, HlgCodes};
+ghost use Rattle.hlg.specs.Root.{IsRoot};
+ghost use Rattle.pixel.specs.Conversion.{code};
+ghost use Rattle.rows.specs.Row.{sampleAt, pixelBytes, spanBytes};
+ghost use Rattle.span.specs.Block.{HasMapped, MappedTo, Within, RootsTo, blockBytes};
+use crate::codes::Mapped;
+use crate::codes::mapped_lights;
+use crate::near::near_codes;
+use crate::root::lower_root;
+use crate::root::weigh;
+use hlg::Codes;
+use quantity::Position;
+use rows::sample_at;
+
+// The pixels that fill dst, at most a block of them, converted from the first ones of src.
+pub(crate) fn convert_block(
+    lights: &[u64; 3505],
+    steps: &[u64; 955],
+    hints: &[u64; 1361],
+    w: Position,
+    peak: u64,
+    src: &[u8],
+    dst: &mut [u8],
+    pixels: usize,
+)
+    requires { ⌜ (now lights ≡ lightTable) × (now steps ≡ stepTable) × (w .0 ≡ positionOf (peak * units)) × (pixels ≤ 32)
+        × (length (now dst) ≡ 6 * pixels) × (6 * pixels ≤ length (now src)) ⌝ }
+    ensures { λ _. ⌜ now (dst .exit) ≡ spanBytes (code peak) (now (src .entry)) 0 pixels ⌝ }
+{
+    let mut mapped = [0u64; 96];
+    let mut roots = [0u64; 32];
+    map_pixels(lights, hints, w, peak, src, &mut mapped, pixels);
+    find_roots(hints, &mapped, &mut roots, pixels);
+    code_pixels(steps, hints, &mapped, &roots, dst, pixels);
+}
+
+// A pixel's samples and its mapped components.
+struct MappedPixel {
+    red: u64,
+    green: u64,
+    blue: u64,
+    mapped: Mapped,
+}
+
+// Black, which is mapped to no light under every peak.
+fn mapped_black() -> MappedPixel
+    ensures { λ m. ⌜ (m .red ≡ 64) × (m .green ≡ 64) × (m .blue ≡ 64) × (m .mapped .red ≡ 0) × (m .mapped .green ≡ 0) × (m .mapped .blue ≡ 0) ⌝ }
+{
+    let dark = Mapped {
+        red: 0,
+        green: 0,
+        blue: 0,
+    };
+    MappedPixel {
+        red: 64,
+        green: 64,
+        blue: 64,
+        mapped: dark,
+    }
+}
+
+// The pixel of six bytes, mapped; as the last where it equals that.
+fn map_next(
+    lights: &[u64; 3505],
+    hints: &[u64; 1361],
+    w: Position,
+    peak: u64,
+    last: MappedPixel,
+    src: &[u8],
+) -> MappedPixel
+    requires { ⌜ (now lights ≡ lightTable) × (w .0 ≡ positionOf (peak * units)) × (length (now src) ≡ 6)
+        × HasMapped peak (last .red) (last .green) (last .blue) (last .mapped .red) (last .mapped .green) (last .mapped .blue) ⌝ }
+    ensures { λ m. ⌜ (m .red ≡ sampleAt (now (src .entry)) 0) × (m .green ≡ sampleAt (now (src .entry)) 1) × (m .blue ≡ sampleAt (now (src .entry)) 2)
+        × HasMapped peak (m .red) (m .green) (m .blue) (m .mapped .red) (m .mapped .green) (m .mapped .blue) ⌝ }
+{
+    let r = sample_at(src, 0);
+    let g = sample_at(src, 1);
+    let b = sample_at(src, 2);
+    if r == last.red {
+        if g == last.green {
+            if b == last.blue {
+                return last;
+            }
+        }
+    }
+    let mapped = mapped_lights(lights, hints, w, peak, r, g, b);
+    MappedPixel {
+        red: r,
+        green: g,
+        blue: b,
+        mapped: mapped,
+    }
+}
+
+// The first pass: the mapped components of the first pixels of src, three words to a pixel.
+fn map_pixels(
+    lights: &[u64; 3505],
+    hints: &[u64; 1361],
+    w: Position,
+    peak: u64,
+    src: &[u8],
+    words: &mut [u64; 96],
+    pixels: usize,
+)
+    requires { ⌜ (now lights ≡ lightTable) × (w .0 ≡ positionOf (peak * units)) × (pixels ≤ 32) × (6 * pixels ≤ length (now src))
+        × (length (now words) ≡ 96) ⌝ }
+    ensures { λ _. ⌜ MappedTo peak (now (src .entry)) (now (words .exit)) pixels ⌝ }
+{
+    let mut last = mapped_black();
+    let mut j = 0;
+    while j < pixels {
+        let from = 6 * j;
+        let to = from + 6;
+        last = map_next(lights, hints, w, peak, last, &src[from..to]);
+        let m = last.mapped;
+        words[3 * j] = m.red;
+        words[3 * j + 1] = m.green;
+        words[3 * j + 2] = m.blue;
+        j += 1;
+    }
+}
+
+// A luminance and its root, or 0.
+struct Rooted {
+    luminance: u64,
+    root: u64,
+}
+
+// The root of a luminance; as the last where it equals that.
+fn root_next(hints: &[u64; 1361], last: Rooted, y: u64) -> Rooted
+    requires { ⌜ IsRoot (last .root) (last .luminance) ⌝ }
+    ensures { λ r. ⌜ (r .luminance ≡ y) × IsRoot (r .root) y ⌝ }
+{
+    if y == last.luminance {
+        return last;
+    }
+    Rooted {
+        luminance: y,
+        root: lower_root(hints, y),
+    }
+}
+
+// The second pass: a root of each pixel's luminance.
+fn find_roots(hints: &[u64; 1361], words: &[u64; 96], roots: &mut [u64; 32], pixels: usize)
+    requires { ⌜ (pixels ≤ 32) × Within (now words) pixels × (length (now roots) ≡ 32) ⌝ }
+    ensures { λ _. ⌜ RootsTo (now (words .entry)) (now (roots .exit)) pixels ⌝ }
+{
+    let mut last = Rooted {
+        luminance: 0,
+        root: 0,
+    };
+    let mut j = 0;
+    while j < pixels {
+        let y = weigh(words[3 * j], words[3 * j + 1], words[3 * j + 2]);
+        last = root_next(hints, last, y);
+        roots[j] = last.root;
+        j += 1;
+    }
+}
+
+// Three mapped components and their codes.
+struct CodedPixel {
+    red: u64,
+    green: u64,
+    blue: u64,
+    codes: Codes,
+}
+
+// No light, and the codes of black.
+fn coded_black() -> CodedPixel
+    ensures { λ c. ⌜ (c .red ≡ 0) × (c .green ≡ 0) × (c .blue ≡ 0) × (c .codes .red ≡ 64) × (c .codes .green ≡ 64) × (c .codes .blue ≡ 64) ⌝ }
+{
+    let codes = Codes {
+        red: 64,
+        green: 64,
+        blue: 64,
+    };
+    CodedPixel {
+        red: 0,
+        green: 0,
+        blue: 0,
+        codes: codes,
+    }
+}
+
+// Three mapped components with their codes; as the last where they equal those.
+fn code_next(
+    steps: &[u64; 955],
+    hints: &[u64; 1361],
+    last: CodedPixel,
+    root: u64,
+    red: u64,
+    green: u64,
+    blue: u64,
+) -> CodedPixel
+    requires { ⌜ (now steps ≡ stepTable) × (red ≤ thousand) × (green ≤ thousand) × (blue ≤ thousand) × IsRoot root (luminance red green blue)
+        × HlgCodes (last .red) (last .green) (last .blue) (last .codes .red) (last .codes .green) (last .codes .blue) ⌝ }
+    ensures { λ c. ⌜ (c .red ≡ red) × (c .green ≡ green) × (c .blue ≡ blue) × HlgCodes red green blue (c .codes .red) (c .codes .green) (c .codes .blue) ⌝ }
+{
+    if red == last.red {
+        if green == last.green {
+            if blue == last.blue {
+                return last;
+            }
+        }
+    }
+    let codes = near_codes(steps, hints, root, red, green, blue);
+    CodedPixel {
+        red: red,
+        green: green,
+        blue: blue,
+        codes: codes,
+    }
+}
+
+// The six bytes of three codes, each high byte first.
+fn write_codes(codes: Codes, dst: &mut [u8])
+    requires { ⌜ (length (now dst) ≡ 6) × (codes .red ≤ 1019) × (codes .green ≤ 1019) × (codes .blue ≤ 1019) ⌝ }
+    ensures { λ _. ⌜ now (dst .exit) ≡ pixelBytes (pixel (codes .red) (codes .green) (codes .blue)) ⌝ }
+{
+    dst[0] = (codes.red / 256) as u8;
+    dst[1] = (codes.red % 256) as u8;
+    dst[2] = (codes.green / 256) as u8;
+    dst[3] = (codes.green % 256) as u8;
+    dst[4] = (codes.blue / 256) as u8;
+    dst[5] = (codes.blue % 256) as u8;
+}
+
+// The third pass: the bytes of each pixel's codes.
+fn code_pixels(
+    steps: &[u64; 955],
+    hints: &[u64; 1361],
+    words: &[u64; 96],
+    roots: &[u64; 32],
+    dst: &mut [u8],
+    pixels: usize,
+)
+    requires { ⌜ (now steps ≡ stepTable) × (pixels ≤ 32) × Within (now words) pixels × RootsTo (now words) (now roots) pixels
+        × (length (now dst) ≡ 6 * pixels) ⌝ }
+    ensures { λ _. ⌜ now (dst .exit) ≡ blockBytes (now (words .entry)) pixels ⌝ }
+{
+    let mut last = coded_black();
+    let mut j = 0;
+    while j < pixels {
+        let from = 6 * j;
+        let to = from + 6;
+        last = code_next(
+            steps,
+            hints,
+            last,
+            roots[j],
+            words[3 * j],
+            words[3 * j + 1],
+            words[3 * j + 2],
+        );
+        let codes = last.codes;
+        write_codes(codes, &mut dst[from..to]);
+        j += 1;
+    }
+}

@@ -1,0 +1,110 @@
+// The fast conversion, of a span and of one pixel: any samples under any declared peak. What pixels share, the tables and the peak's position, is found
+// once a call and lent.
+mod block;
+mod codes;
+mod hint_table;
+mod hints;
+mod near;
+mod root;
+
+ghost use mathlib.Core.Path.{_≡_};
+ghost use mathlib.Core.List.{_++_};
+ghost use Prim.Native.Nat.{_*_, _≤_};
+ghost use lib.ListN.{length, drop};
+ghost use Rattle.quantity.specs.Units.{units};
+ghost use Rattle.quantity.specs.Component.{red, green, blue, pixel};
+ghost use Rattle.pq.specs.LightTable.{lightTable};
+ghost use Rattle.position.specs.Position.{positionOf};
+ghost use Rattle.eetf.specs.Curve.{peakRead};
+ghost use Rattle.hlg_steps.specs.StepTable.{stepTable};
+ghost use Rattle.pixel.specs.Conversion.{code};
+ghost use Rattle.rows.specs.Row.{spanBytes};
+ghost use Rattle.span.specs.Span.{codesUnder, convertedInto};
+use block::convert_block;
+use codes::mapped_lights;
+use hints::hint_table;
+use hlg::Codes;
+use hlg_steps::step_table;
+use near::near_codes;
+use position::fill_lights;
+use quantity::DisplayLight;
+use quantity::Position;
+use quantity::Source;
+use quantity::larger;
+use quantity::smaller;
+use root::lower_root;
+use root::weigh;
+use rows::fewer;
+
+// The pixels that fill dst, converted from the first ones of src: as many whole ones as both have. Other bytes of dst remain. An empty span needs
+// no table.
+pub fn convert_span(source: Source, src: &[u8], dst: &mut [u8])
+    ensures { λ _. ⌜ now (dst .exit) ≡ convertedInto source (now (src .entry)) (now (dst .entry)) ⌝ }
+{
+    let pixels = fewer(src.len(), dst.len()) / 6;
+    if pixels == 0 {
+        return;
+    }
+    let peak = read_peak(source.peak);
+    let mut lights = [0u64; 3505];
+    let w = fill_lights(&mut lights, DisplayLight(peak * 16777216));
+    let steps = step_table();
+    let hints = hint_table();
+    convert_blocks(&lights, &steps, &hints, w, peak, src, dst, pixels);
+}
+
+// The HLG codes of one pixel, for which alone the tables are filled.
+pub fn pixel_codes(source: Source, r: u64, g: u64, b: u64) -> Codes
+    ensures { λ c. ⌜ (c .red ≡ codesUnder source (pixel r g b) red) × (c .green ≡ codesUnder source (pixel r g b) green)
+        × (c .blue ≡ codesUnder source (pixel r g b) blue) ⌝ }
+{
+    let peak = read_peak(source.peak);
+    let mut lights = [0u64; 3505];
+    let w = fill_lights(&mut lights, DisplayLight(peak * 16777216));
+    let steps = step_table();
+    let hints = hint_table();
+    let m = mapped_lights(&lights, &hints, w, peak, r, g, b);
+    let root = lower_root(&hints, weigh(m.red, m.green, m.blue));
+    near_codes(&steps, &hints, root, m.red, m.green, m.blue)
+}
+
+// A declared peak as it is read: whole cd/m2 from 1 to 10,000.
+fn read_peak(peak: u64) -> u64
+    ensures { λ r. ⌜ r ≡ peakRead peak ⌝ }
+{
+    smaller(larger(peak, 1), 10000)
+}
+
+// The first pixels of dst, converted from those of src, block by block. Other bytes of dst remain.
+fn convert_blocks(
+    lights: &[u64; 3505],
+    steps: &[u64; 955],
+    hints: &[u64; 1361],
+    w: Position,
+    peak: u64,
+    src: &[u8],
+    dst: &mut [u8],
+    pixels: usize,
+)
+    requires { ⌜ (now lights ≡ lightTable) × (now steps ≡ stepTable) × (w .0 ≡ positionOf (peak * units))
+        × (6 * pixels ≤ length (now dst)) × (6 * pixels ≤ length (now src)) ⌝ }
+    ensures { λ _. ⌜ now (dst .exit) ≡ spanBytes (code peak) (now (src .entry)) 0 pixels ++ drop (6 * pixels) (now (dst .entry)) ⌝ }
+{
+    let mut j = 0;
+    while j < pixels {
+        let count = fewer(pixels - j, 32);
+        let from = 6 * j;
+        let to = from + 6 * count;
+        convert_block(
+            lights,
+            steps,
+            hints,
+            w,
+            peak,
+            &src[from..to],
+            &mut dst[from..to],
+            count,
+        );
+        j += count;
+    }
+}
