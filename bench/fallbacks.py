@@ -33,8 +33,8 @@ LEAST, SPREAD, GUESS = 12_378_400_392_853_802, 2_000_000_000_000, 4_611_686_018_
 # what of the above, and of the numbers below, stands in which file
 CONSTANTS = {
     "span/src/block.rt": (96, 32, 64),
-    "span/src/codes.rt": (1_000, THOUSAND),
     "span/src/hints.rt": (800, 33, 2**58, 64, 30, 32, 2**20, 2**38, 2**32, 610, 940, 420),
+    "span/src/mapping.rt": (1_000, THOUSAND),
     "span/src/near.rt": (2**17, 64, 65, 1_018, 1_020),
     "span/src/root.rt": (2_627, 6_780, 593, 47, WHOLE, SIXTH, LEAST, SPREAD, GUESS, 128, 38),
     "span/src/lib.rt": (UNITS, BLOCK),

@@ -1,9 +1,9 @@
 // The fast conversion, of a span and of one pixel: any samples under any declared peak. What pixels share, the tables and the peak's position, is found
 // once a call and lent.
 mod block;
-mod codes;
 mod hint_table;
 mod hints;
+mod mapping;
 mod near;
 mod root;
 
@@ -21,10 +21,10 @@ ghost use Rattle.pixel.specs.Conversion.{code};
 ghost use Rattle.rows.specs.Row.{spanBytes};
 ghost use Rattle.span.specs.Span.{codesUnder, convertedInto};
 use block::convert_block;
-use codes::mapped_lights;
 use hints::hint_table;
 use hlg::Codes;
 use hlg_steps::step_table;
+use mapping::mapped_lights;
 use near::near_codes;
 use position::fill_lights;
 use quantity::DisplayLight;

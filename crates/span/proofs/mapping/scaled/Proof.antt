@@ -1,4 +1,4 @@
--- `span::codes::scaled` meets its contract: a quotient that passes its test is the floor, and `map_component` reads no number of these at an end.
+-- `span::mapping::scaled` meets its contract: a quotient that passes its test is the floor, and `map_component` reads no number of these at an end.
 use mathlib.Core.Path.{_≡_, _∙_}
 use Prim.Native.Nat.{min, _*_}
 use native.Mathlib.Omega.{arith}
@@ -6,8 +6,8 @@ use borrow.Author.Needs.{needs}
 use Rattle.words.proofs.QuotientLaws.{quotient-is}
 use Rattle.quantity.specs.Units.{units, thousand, tenThousand}
 use Rattle.eetf.specs.Curve.{mappedLight}
-use Rattle.span.proofs.codes.scaled.Statement.{statement}
-use Rattle.span.proofs.codes.scaled.Tie as tie
+use Rattle.span.proofs.mapping.scaled.Statement.{statement}
+use Rattle.span.proofs.mapping.scaled.Tie as tie
 
 mul-upper-word : tie.Need-mul-upper-word
 unfolding units tenThousand

@@ -1,4 +1,4 @@
--- `span::codes::mapped_lights` meets its contract: each stage's contract gives the converted pixel's value, stage by stage.
+-- `span::mapping::mapped_lights` meets its contract: each stage's contract gives the converted pixel's value, stage by stage.
 use mathlib.Core.Path.{_≡_, _∙_, ap}
 use Prim.Native.Nat.{ℕ, _*_, _-_, _≤_}
 use native.Mathlib.Omega.{arith}
@@ -10,8 +10,8 @@ use Rattle.position.proofs.LightLaws.{lent-code-light}
 use Rattle.pixel.specs.Conversion.{brightestLight, brightestPosition, bent}
 use Rattle.pixel.proofs.PixelLaws.{component-le, brightest-light-at-most, brightest-position-range, bent-at-most}
 use Rattle.span.proofs.CodesLaws.{brightest-light-is, bent-is, mapped-is, mapped-unbent}
-use Rattle.span.proofs.codes.mapped_lights.Statement.{statement}
-use Rattle.span.proofs.codes.mapped_lights.Tie as tie
+use Rattle.span.proofs.mapping.mapped_lights.Statement.{statement}
+use Rattle.span.proofs.mapping.mapped_lights.Tie as tie
 
 -- the function's entry and its pixel, from the place where the curve is asked
 abbrev start : tie.After-code-position → tie.Start

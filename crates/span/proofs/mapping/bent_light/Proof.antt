@@ -1,4 +1,4 @@
--- `span::codes::bent_light` meets its contract: the knee's curve on the light table, or the smaller of the light and 1,000 cd/m2.
+-- `span::mapping::bent_light` meets its contract: the knee's curve on the light table, or the smaller of the light and 1,000 cd/m2.
 use mathlib.Core.Path.{_≡_, _∙_, ap₂}
 use Prim.Native.Nat.{min}
 use native.Mathlib.Omega.{arith}
@@ -6,8 +6,8 @@ use borrow.Author.Needs.{needs}
 use Rattle.quantity.specs.Units.{units, thousand, tenThousand, lastPosition}
 use Rattle.eetf.specs.Curve.{bentLight}
 use Rattle.eetf.proofs.CurveLaws.{unbent, on-light-table}
-use Rattle.span.proofs.codes.bent_light.Statement.{statement}
-use Rattle.span.proofs.codes.bent_light.Tie as tie
+use Rattle.span.proofs.mapping.bent_light.Statement.{statement}
+use Rattle.span.proofs.mapping.bent_light.Tie as tie
 
 knee-curve-requires : tie.Need-knee-curve-requires
 knee-curve-requires c κs = search needs
