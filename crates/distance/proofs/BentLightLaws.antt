@@ -7,10 +7,11 @@ use native.Mathlib.Nat.{le-refl}
 use native.Mathlib.Decide.{decLe}
 use native.Mathlib.Omega.{arith}
 use Rattle.laws.specs.Fraction.{Fraction, over, whole, _≼_}
-use Rattle.laws.specs.Side.{Side, low, high}
+use Rattle.laws.specs.Side.{Side, low, high, Bounds}
+use Rattle.laws.proofs.SideLaws.{at-refl}
 use Rattle.quantity.specs.Units.{units, thousand, lastPosition}
 use Rattle.quantity.specs.Component.{Component, Pixel, brightest}
-use Rattle.pq.specs.Pq.{positionSignal}
+use Rattle.pq.specs.Pq.{positionSignal, ValueAtLeast}
 use Rattle.pq.specs.LightTable.{lightTable, lightEntry}
 use Rattle.pq.proofs.EntryLaws.{entries-grow}
 use Rattle.position.specs.Position.{lightAt, positionOf}
@@ -22,56 +23,43 @@ use Rattle.eetf.specs.Curve.{kneeCurve, bentLight}
 use Rattle.eetf.proofs.SplineLaws.{curve, curve-stays, knee-curve-light}
 use Rattle.eetf.proofs.CurveLaws.{unbent, bent-by-curve, bent-le-self}
 use Rattle.exact.specs.ExactValue.{Value, Light, Given, Ends, BentSignal, BentLight}
-use Rattle.distance.proofs.FoundNumbers.{leastLight, ratioUnder, ratioOver, positionsOff, leastBent}
+use Rattle.distance.proofs.FoundNumbers.{leastLight, ratioUnder, ratioOver, positionsOff, kneeHalves, thousandAt, leastBent}
 use Rattle.distance.proofs.NearLaws.{end, BentWithin}
 use Rattle.distance.proofs.LightLaws.{entries, around, light-low, light-high}
 use Rattle.distance.proofs.BentSignalLaws.{Around, endsAround, are-around, straight, bent-low, bent-high, bent-range}
 use Rattle.distance.proofs.BentLightTests.{slow-at}
 
--- ---- a peak above 1,000: t is 674,406, and w the peak's position
+-- ---- a peak above 1,000: t is the position of 1,000 cd/m2, w the peak's position
 module _ (peak : ℕ) (more : 1000 < peak) (most : peak ≤ 10000) where
   abbrev w : ℕ
   w = positionOf (peak * units)
 
-  far : 674406 + 98 ≤ w
+  far : thousandAt + 98 ≤ w
   far = peak-past peak more
 
   last : w ≤ 897024
   unfolding lastPosition
   last = position-is (peak * units) .range
 
-  near : w ≤ 3 * 674406
+  near : w ≤ 3 * thousandAt
   near = omega (arith, last)
 
-  up : 674406 < w
+  up : thousandAt < w
   up = omega (arith, far)
-
-  -- J lies from t to t + 1, H from w - 1 to w + 2
-  J-low : Value low (whole thousand) (positionSignal 674406)
-  unfolding Value
-  J-low = thousand-low
-
-  J-high : Value high (whole thousand) (positionSignal (674406 + 1))
-  unfolding Value
-  J-high = thousand-high
 
   before : pred w ≡ w - 1
   before = omega arith
 
-  H-low : Value low (whole (peak * units)) (positionSignal (w - 1))
-  unfolding Value
-  H-low = subst (λ q. Value low (whole (peak * units)) (positionSignal q)) before (peak-between peak more most .low)
-
-  H-high : Value high (whole (peak * units)) (positionSignal (w + 2))
-  unfolding Value
-  H-high = peak-between peak more most .high
-
+  -- J lies from t to t + 1, H from w - 1 to w + 2
   ends : Ends peak
-  ends = endsAround peak 674406 w far J-low J-high H-low H-high
+  unfolding Value
+  ends =
+      endsAround peak thousandAt w far thousand-low thousand-high
+      (subst (λ q. ValueAtLeast (whole (peak * units)) (positionSignal q)) before (peak-between peak more most .low)) (peak-between peak more most .high)
 
-  stand : Around ends 674406 w
+  stand : Around ends thousandAt w
   unfolding ends
-  stand = are-around peak 674406 w far J-low J-high H-low H-high
+  stand = are-around peak thousandAt w far _ _ _ _
 
   -- the bent light of X = m from the bent signal v and its light l
   bent-by : (G : Given) (s : Side) (m v : ℕ) (l : Fraction) → G .X s (positionSignal m) → BentSignal s ends (min m (ends .H s)) v
@@ -79,41 +67,41 @@ module _ (peak : ℕ) (more : 1000 < peak) (most : peak ≤ 10000) where
   unfolding BentLight ends
   bent-by G s m v l a b h = inr (more, record { ends = ends; x = m; at = a; v = v; bent = b; light = h })
 
-  by-self : (G : Given) (s : Side) (m : ℕ) (l : Fraction) → 2 * m + 5 + w ≤ 3 * 674406 → G .X s (positionSignal m)
+  by-self : (G : Given) (s : Side) (m : ℕ) (l : Fraction) → 2 * m + kneeHalves + w ≤ 3 * thousandAt → G .X s (positionSignal m)
       → Light s (positionSignal m) l → BentLight G s peak l
-  by-self G s m l h a c = bent-by G s m m l a (straight ends 674406 w stand far near s m m h (omega arith)) c
+  by-self G s m l h a c = bent-by G s m m l a (straight ends thousandAt w stand far near s m m h (omega arith)) c
 
   -- what the light at m is mapped to is the light at the curve's position
   abbrev bentAt : ℕ → ℕ
-  bentAt m = curve 674406 w m
+  bentAt m = curve thousandAt w m
 
   to-light : (m : ℕ) → bentLight peak (lightAt m) m ≡ lightAt (bentAt m)
   unfolding lightAt
   to-light m =
       bent-by-curve peak (lightAt m) m more
       ∙ ap (λ t. kneeCurve lightEntry t (positionOf (peak * units)) (lightAt m) m) thousand-position
-      ∙ knee-curve-light 674406 w up near lightEntry m
+      ∙ knee-curve-light thousandAt w up near lightEntry m
 
-  stays : (m : ℕ) → 2 * m + 5 + w ≤ 3 * 674406 → bentLight peak (lightAt m) m ≡ lightAt m
-  stays m h = to-light m ∙ ap lightAt (curve-stays 674406 w up near m (omega arith))
+  stays : (m : ℕ) → 2 * m + kneeHalves + w ≤ 3 * thousandAt → bentLight peak (lightAt m) m ≡ lightAt m
+  stays m h = to-light m ∙ ap lightAt (curve-stays thousandAt w up near m (omega arith))
 
-  -- from five half positions below the knee on
-  module _ (m : ℕ) (h : 3 * 674406 < 2 * m + 5 + w) where
-    bends : 3 * 674406 < 2 * min m w + 5 + w
+  -- from there on
+  module _ (m : ℕ) (h : 3 * thousandAt < 2 * m + kneeHalves + w) where
+    bends : 3 * thousandAt < 2 * min m w + kneeHalves + w
     bends = omega (arith, far, h)
 
-    range : (leastBent ≤ bentAt m) × (bentAt m ≤ 674406)
+    range : (leastBent ≤ bentAt m) × (bentAt m ≤ thousandAt)
     range = bent-range w m (omega (arith, far)) last bends
 
     by-low : (G : Given) (l : Fraction) → G .X low (positionSignal m) → Light low (positionSignal (bentAt m - positionsOff)) l → BentLight G low peak l
     by-low G l a c =
         bent-by G low m (bentAt m - positionsOff) l a
-        (bent-low ends 674406 w stand far near m m (bentAt m - positionsOff) bends (le-refl m) (omega (arith, range))) c
+        (bent-low ends thousandAt w stand far near m m (bentAt m - positionsOff) bends (le-refl m) (omega (arith, range))) c
 
     by-high : (G : Given) (l : Fraction) → G .X high (positionSignal m) → Light high (positionSignal (bentAt m + positionsOff)) l → BentLight G high peak l
     by-high G l a c =
         bent-by G high m (bentAt m + positionsOff) l a
-        (bent-high ends 674406 w stand far near m m (bentAt m + positionsOff) bends (omega arith) (le-refl _)) c
+        (bent-high ends thousandAt w stand far near m m (bentAt m + positionsOff) bends (omega arith) (le-refl _)) c
 
 -- ---- a pixel of lights x that gives G: X is the signal of the position m of an index, and the brightest light is that of X
 pub record Indexed (G : Given) (x : Pixel) (m : ℕ) : Type 0 where
@@ -152,17 +140,13 @@ module _ {G : Given} {x : Pixel} {m : ℕ} (I : Indexed G x m) (peak : ℕ) (mos
   lit-light = omega (arith, at-entry, second-entry, entries-grow 1 (I .k) (I .some))
 
   -- the light of X
-  own-low : (l : Fraction) → l ≼ around low (lightAt m) → Light low (positionSignal m) l
-  own-low l c = light-low (I .k) l (I .some) (I .range) (record { cross = omega (arith, I .at) }) (subst (λ e. l ≼ around low e) at-entry c)
+  pub own-light : (s : Side) (l : Fraction) → Bounds s l (around s (lightAt m)) → Light s (positionSignal m) l
+  own-light low l c =
+      light-low (I .k) l (I .some) (I .range) (record { cross = omega (arith, I .at) }) (subst (λ e. l ≼ around low e) at-entry (record { cross = c }))
+  own-light high l c =
+      light-high (I .k) l (I .range) (record { cross = omega (arith, I .at) }) (subst (λ e. around high e ≼ l) at-entry (record { cross = c }))
 
-  own-high : (l : Fraction) → around high (lightAt m) ≼ l → Light high (positionSignal m) l
-  own-high l c = light-high (I .k) l (I .range) (record { cross = omega (arith, I .at) }) (subst (λ e. around high e ≼ l) at-entry c)
-
-  pub own-light : (s : Side) → Light s (positionSignal m) (around s (lightAt m))
-  own-light low = own-low (around low (lightAt m)) (record { cross = le-refl _ })
-  own-light high = own-high (around high (lightAt m)) (record { cross = le-refl _ })
-
-  -- a peak up to 1,000: the smaller of the brightest light and 1,000 cd/m2
+  -- a peak up to 1,000: n is the brightest light, cut at 1,000 cd/m2
   up-to-thousand : peak ≤ 1000 → Enclosure 1 1 G peak m
   unfolding BentLight
   up-to-thousand h = record { b = λ s. end entries s n; lights = side; within = within }
@@ -172,44 +156,44 @@ module _ {G : Given} {x : Pixel} {m : ℕ} (I : Indexed G x m) (peak : ℕ) (mos
 
       top : Dec (thousand ≤ lightAt m) → BentLight G high peak (around high n)
       top (yes g) = inl (h, inl (omega (arith, is)))
-      top (no g) = inl (h, inr (I .most high (around high n) (own-high (around high n) (record { cross = omega (arith, is) }))))
+      top (no g) = inl (h, inr (I .most high (around high n) (own-light high (around high n) (omega (arith, is)))))
 
       side : (s : Side) → BentLight G s peak (around s n)
-      side low = inl (h, (omega (arith, is), I .most low (around low n) (own-low (around low n) (record { cross = omega (arith, is) }))))
+      side low = inl (h, (omega (arith, is), I .most low (around low n) (own-light low (around low n) (omega (arith, is)))))
       side high = top (decLe thousand (lightAt m))
 
       within : BentWithin entries 1 1 (lightAt m) n (λ s. end entries s n)
       within = record { lower = le-refl _; upper = le-refl _; bent = omega (arith, is); seen = omega (arith, is, lit-light, thousand-ge) }
 
-  -- five half positions and more below the knee: the light of X
-  below-knee : (above : 1000 < peak) → 2 * m + 5 + positionOf (peak * units) ≤ 3 * 674406 → Enclosure 1 1 G peak m
+  -- so many half positions below the knee: the light of X
+  below-knee : (above : 1000 < peak) → 2 * m + kneeHalves + positionOf (peak * units) ≤ 3 * thousandAt → Enclosure 1 1 G peak m
   below-knee above h = record { b = λ s. end entries s (lightAt m); lights = side; within = within }
     where
       is : n ≡ lightAt m
       is = stays peak above most m h
 
       side : (s : Side) → BentLight G s peak (around s (lightAt m))
-      side s = by-self peak above most G s m (around s (lightAt m)) h (I .signal s) (own-light s)
+      side s = by-self peak above most G s m (around s (lightAt m)) h (I .signal s) (own-light s (around s (lightAt m)) (at-refl s _))
 
       within : BentWithin entries 1 1 (lightAt m) n (λ s. end entries s (lightAt m))
       within = record { lower = omega (arith, is); upper = omega (arith, is); bent = omega (arith, is); seen = omega (arith, is, lit-light) }
 
-  pub left : (peak ≤ 1000) ⊎ (2 * m + 5 + positionOf (peak * units) ≤ 3 * 674406) → Enclosure 1 1 G peak m
+  pub left : (peak ≤ 1000) ⊎ (2 * m + kneeHalves + positionOf (peak * units) ≤ 3 * thousandAt) → Enclosure 1 1 G peak m
   left c = go (decLe peak 1000) c
     where
-      go : Dec (peak ≤ 1000) → (peak ≤ 1000) ⊎ (2 * m + 5 + positionOf (peak * units) ≤ 3 * 674406) → Enclosure 1 1 G peak m
+      go : Dec (peak ≤ 1000) → (peak ≤ 1000) ⊎ (2 * m + kneeHalves + positionOf (peak * units) ≤ 3 * thousandAt) → Enclosure 1 1 G peak m
       go (yes h) d = up-to-thousand h
       go (no h) (inl g) = absurd (h g)
       go (no h) (inr g) = below-knee (omega arith) g
 
   -- from there on the curve's light, by entries of the table so many positions and a cell away; s is the bent position
-  pub on-curve : 1000 < peak → 3 * 674406 < 2 * m + 5 + positionOf (peak * units) → Enclosure ratioUnder ratioOver G peak m
+  pub on-curve : 1000 < peak → 3 * thousandAt < 2 * m + kneeHalves + positionOf (peak * units) → Enclosure ratioUnder ratioOver G peak m
   on-curve above h = record { b = b; lights = side; within = record { lower = lower; upper = upper; bent = bent-le-self peak m; seen = seen } }
     where
       s : ℕ
       s = bentAt peak above most m
 
-      r : (leastBent ≤ s) × (s ≤ 674406)
+      r : (leastBent ≤ s) × (s ≤ thousandAt)
       r = range peak above most m h
 
       is : n ≡ lightAt s

@@ -13,14 +13,15 @@ use Rattle.pq.specs.Pq.{positionSignal}
 use Rattle.exact.specs.ExactValue.{Value, Ends, Spline, BentSignal}
 use Rattle.eetf.proofs.CubicLaws.{Place, steep, flat}
 use Rattle.eetf.proofs.SplineLaws.{curve, curve-le-top, curve-le-self, curve-place, curve-near-knee}
-use Rattle.distance.proofs.FoundNumbers.{positionsOff, leastBent}
+use Rattle.distance.proofs.FoundNumbers.{positionsOff, kneeHalves, thousandAt, leastBent}
 
 -- ---- the spline's inequality at the unfavourable ends
 spline-low : (a c q u v t : ℕ) → 96 ≤ c → Place a (c + 2) q → u ≤ a + 3 → v + (q + positionsOff) ≤ t → 4 * u ^ 3 + 27 * c ^ 2 * v ≤ 27 * c ^ 2 * t
 spline-low a c q u v t l p hu hv =
     simp powers (omega (arith, steep a c q l p, mul-le-mul hu (mul-le-mul hu hu), mul-le-mul-left (c * c) hv))
 
-spline-high : (a b q e s v t : ℕ) → 1 ≤ b → Place a b q → a ≤ e + 2 → s + q ≡ t → s + positionsOff ≤ v → 27 * (b + 2) ^ 2 * (t + 1) ≤ 4 * e ^ 3 + 27 * (b + 2) ^ 2 * v
+spline-high : (a b q e s v t : ℕ) → 1 ≤ b → Place a b q → a ≤ e + 2 → s + q ≡ t → s + positionsOff ≤ v
+    → 27 * (b + 2) ^ 2 * (t + 1) ≤ 4 * e ^ 3 + 27 * (b + 2) ^ 2 * v
 spline-high a b q e s v t l p he hq hv = go (decLe 7 q)
   where
     go : Dec (7 ≤ q) → 27 * (b + 2) ^ 2 * (t + 1) ≤ 4 * e ^ 3 + 27 * (b + 2) ^ 2 * v
@@ -77,12 +78,12 @@ module _ (peak t w : ℕ) (far : t + 98 ≤ w)
 -- ---- X stands at a position m, or between it and the next
 module _ {peak : ℕ} (e : Ends peak) (t w : ℕ) (around : Around e t w) (far : t + 98 ≤ w) (near : w ≤ 3 * t) where
   -- five half positions and more below the knee it serves itself
-  pub straight : (s : Side) (m x : ℕ) → 2 * m + 5 + w ≤ 3 * t → x ≤ m + 1 → BentSignal s e (min x (e .H s)) x
+  pub straight : (s : Side) (m x : ℕ) → 2 * m + kneeHalves + w ≤ 3 * t → x ≤ m + 1 → BentSignal s e (min x (e .H s)) x
   straight low m x h k = inl (omega (arith, around), omega (arith, around))
   straight high m x h k = inl (omega (arith, around), omega (arith, around))
 
   -- from there on so many positions below the curve, and more, are a lower fraction
-  pub bent-low : (m x v : ℕ) → 3 * t < 2 * min m w + 5 + w → m ≤ x → v + positionsOff ≤ curve t w m → BentSignal low e (min x (e .H low)) v
+  pub bent-low : (m x v : ℕ) → 3 * t < 2 * min m w + kneeHalves + w → m ≤ x → v + positionsOff ≤ curve t w m → BentSignal low e (min x (e .H low)) v
   bent-low m x v h k l =
       let up : t < w = omega arith in
       let top = curve-le-top t w up near m in
@@ -95,7 +96,7 @@ module _ {peak : ℕ} (e : Ends peak) (t w : ℕ) (around : Around e t w) (far :
       inr (inr (omega (arith, around), curved))
 
   -- and so many above it, and more, an upper one
-  pub bent-high : (m x v : ℕ) → 3 * t < 2 * min m w + 5 + w → x ≤ m + 1 → curve t w m + positionsOff ≤ v → BentSignal high e (min x (e .H high)) v
+  pub bent-high : (m x v : ℕ) → 3 * t < 2 * min m w + kneeHalves + w → x ≤ m + 1 → curve t w m + positionsOff ≤ v → BentSignal high e (min x (e .H high)) v
   bent-high m x v h k l = go (decLe (3 * e .J high) (2 * min x (e .H high) + e .H low))
     where
       up : t < w
@@ -122,9 +123,10 @@ module _ {peak : ℕ} (e : Ends peak) (t w : ℕ) (around : Around e t w) (far :
       go (yes r) = inr (inl (r, curved))
       go (no r) = inr (inr (omega (arith, around, top, p .shallow), curved))
 
--- ---- where a bent position lies, t being 674,406
-pub bent-range : (w m : ℕ) → 674410 ≤ w → w ≤ 897024 → 3 * 674406 < 2 * min m w + 5 + w → (leastBent ≤ curve 674406 w m) × (curve 674406 w m ≤ 674406)
+-- ---- where a bent position lies, t being that of 1,000 cd/m2
+pub bent-range : (w m : ℕ) → 674410 ≤ w → w ≤ 897024 → 3 * thousandAt < 2 * min m w + kneeHalves + w
+    → (leastBent ≤ curve thousandAt w m) × (curve thousandAt w m ≤ thousandAt)
 bent-range w m l h k = (
-  omega (arith, curve-near-knee 674406 w (omega arith) (omega arith) m (omega arith) (omega arith)),
-  curve-le-top 674406 w (omega arith) (omega arith) m,
+  omega (arith, curve-near-knee thousandAt w (omega arith) (omega arith) m (omega arith) (omega arith)),
+  curve-le-top thousandAt w (omega arith) (omega arith) m,
 )

@@ -2,7 +2,7 @@
 use mathlib.Core.Path.{_≡_}
 use mathlib.Core.Logic.{inl, inr}
 use Prim.Native.Nat.{ℕ, _+_, _-_, _*_, _≤_, _<_}
-use native.Mathlib.Nat.{mul-pos, mul-le-mul-right, mul-lt-mul-of-pos-right, le-of-mul-le-mul-right, lt-of-mul-lt-mul-right}
+use native.Mathlib.Nat.{mul-pos, mul-le-mul-left, mul-le-mul-right, mul-lt-mul-of-pos-right, le-of-mul-le-mul-right, lt-of-mul-lt-mul-right}
 use native.Mathlib.Omega.{arith}
 use Rattle.laws.specs.Fraction.{Fraction, _≼_}
 use Rattle.laws.specs.Side.{low, high}
@@ -16,25 +16,25 @@ module _ {G : Given} (S : Sound G) (peak : ℕ) (i : Component) where
   enclosures-ordered : {A B : Fraction → Type 0} (x : Enclosed G peak i A) (y : Enclosed G peak i B) → x .fraction low ≼ y .fraction high
   enclosures-ordered x y = ordered S peak i (x .signals low) (y .signals high)
 
-  pub near-codes : (c d : ℕ) → Enclosed G peak i (LessThan 2 c) → Enclosed G peak i (LessThan 2 d) → c < d + 4
-  near-codes c d x y = go (x .fraction low) (y .fraction high) (enclosures-ordered x y) (x .inside low) (y .inside high)
+  pub near-codes : (n c d : ℕ) → Enclosed G peak i (LessThan n c) → Enclosed G peak i (LessThan n d) → c < d + 2 * n
+  near-codes n c d x y = go (x .fraction low) (y .fraction high) (enclosures-ordered x y) (x .inside low) (y .inside high)
     where
-      go : (g h : Fraction) → g ≼ h → LessThan 2 c g → LessThan 2 d h → c < d + 4
+      go : (g h : Fraction) → g ≼ h → LessThan n c g → LessThan n d h → c < d + 2 * n
       go g h o u v =
           lt-of-mul-lt-mul-right (g .den * h .den)
           (omega (arith, o .cross, mul-lt-mul-of-pos-right (u .above) (h .pos), mul-lt-mul-of-pos-right (v .below) (g .pos)))
 
-  pub nearer-codes : (c d : ℕ) → Enclosed G peak i (AtMost 9 16 c) → Enclosed G peak i (AtMost 9 16 d) → 8 * c ≤ 8 * d + 9
-  nearer-codes c d x y = go (x .fraction low) (y .fraction high) (enclosures-ordered x y) (x .inside low) (y .inside high)
+  pub nearer-codes : (n k c d : ℕ) → Enclosed G peak i (AtMost n k c) → Enclosed G peak i (AtMost n k d) → k * c ≤ k * d + 2 * n
+  nearer-codes n k c d x y = go (x .fraction low) (y .fraction high) (enclosures-ordered x y) (x .inside low) (y .inside high)
     where
-      go : (g h : Fraction) → g ≼ h → AtMost 9 16 c g → AtMost 9 16 d h → 8 * c ≤ 8 * d + 9
+      go : (g h : Fraction) → g ≼ h → AtMost n k c g → AtMost n k d h → k * c ≤ k * d + 2 * n
       go g h o u v =
           le-of-mul-le-mul-right {k = g .den * h .den}
-          (omega (arith, o .cross, mul-le-mul-right (h .den) (u .above), mul-le-mul-right (g .den) (v .below))) (mul-pos (g .pos) (h .pos))
+          (omega (arith, mul-le-mul-left k (o .cross), mul-le-mul-right (h .den) (u .above), mul-le-mul-right (g .den) (v .below))) (mul-pos (g .pos) (h .pos))
 
   -- which for whole codes is one at most
   pub neighbours : (c d : ℕ) → Enclosed G peak i (AtMost 9 16 c) → Enclosed G peak i (AtMost 9 16 d) → c ≤ d + 1
-  neighbours c d x y = omega (arith, nearer-codes c d x y)
+  neighbours c d x y = omega (arith, nearer-codes 9 16 c d x y)
 
   -- in a black pixel the bounds admit the codes 63 to 65, and 64
   black : (g : Fraction) → G .level ≡ 0 → Signal G low peak i g → g .num ≡ 0

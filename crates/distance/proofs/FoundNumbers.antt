@@ -41,9 +41,16 @@ ratioUnder = 360
 abbrev pub ratioOver : ℕ
 ratioOver = 361
 
--- positions that the bent signal lies off the curve's
+-- positions that the bent signal lies off the curve's, and half positions below the knee where X surely serves itself
 abbrev pub positionsOff : ℕ
 positionsOff = 8
+
+abbrev pub kneeHalves : ℕ
+kneeHalves = 5
+
+-- t, the position of 1,000 cd/m2
+abbrev pub thousandAt : ℕ
+thousandAt = 674406
 
 -- the bent positions under peaks from 1,001 to 10,000, and the cells of the light table that hold them and eight more on either side
 abbrev pub leastBent : ℕ

@@ -155,7 +155,8 @@ module _ (R : Rounding) {p q m n : ℕ} {b : Side → ℕ} {x r : Pixel} (B : Be
         luminance-low =
             subst (λ t. p * ((weighted r - luminanceBelow) * denominators R m low) ≤ q * t) (sum low)
             (sum-lo R p q m n 10000 (weighted x) (weighted r) three (B .bent) light luminanceBelow (b low) (end R low n) (ends low) (lit≤ tt) (B .lower)
-            (from n) (to n (B .bent)) lower (omega (arith, inside red, inside green, inside blue)) (omega (arith, f red .below, f green .below, f blue .below)));
+            (from n) (to n (B .bent)) lower (omega (arith, inside red, inside green, inside blue))
+            (omega (arith, f red .below, f green .below, f blue .below)));
         result-low =
             sum-lo R p q m n 1 (x i) (r i) three (B .bent) (omega (arith, under i, B .bent)) resultBelow (b low) (end R low n) (end R low (x i)) (lit≤ tt)
             (B .lower) (from n) (to n (B .bent)) (omega (arith, from (x i))) (omega (arith, inside i)) (f i .below);

@@ -22,7 +22,7 @@ use Rattle.pixel.proofs.PixelLaws.{Mapped, ratio-kept, bent-of-light, light-of-
 use Rattle.pixel.proofs.OrderLaws.{ordered, greys}
 use Rattle.exact.specs.ExactValue.{Given, ofCodes, signal, Result}
 use Rattle.distance.specs.Demand.{LessThan, AtMost, Enclosed, BelowKnee, Voted, Demand}
-use Rattle.distance.proofs.FoundNumbers.{ratioUnder, ratioOver, roomAbove, roomBelow}
+use Rattle.distance.proofs.FoundNumbers.{roomAbove, roomBelow, ratioUnder, ratioOver, kneeHalves, thousandAt}
 use Rattle.distance.proofs.NearLaws.{end, near, least, mapped-le, numerators, denominators}
 use Rattle.distance.proofs.StepTests.{sixteenths-low, sixteenths-high, ratios}
 use Rattle.distance.proofs.StepLaws.{room}
@@ -61,7 +61,7 @@ module _ {G : Given} {x : Pixel} {m : ℕ} (I : Indexed G x m) (peak : ℕ) (mos
           bent = over (E .b s) (entries .parts) (around s 0 .pos);
           bent-light = E .lights s;
           most = around (other s) (lightAt m);
-          most-light = I .most (other s) _ (own-light I peak most (other s));
+          most-light = I .most (other s) _ (own-light I peak most (other s) _ (at-refl (other s) _));
           some = end-pos (other s);
           bounds =
               subst (λ z. At s z (end entries s (x i) * E .b s * (denominators entries (lightAt m) s * entries .parts))) (omega arith)
@@ -75,19 +75,20 @@ module _ {G : Given} {x : Pixel} {m : ℕ} (I : Indexed G x m) (peak : ℕ) (mos
         let near-results = near entries (E .within) maps i in
         within (record { seen = I .seen; pos = divisor; results = result }) room near-results (least entries (E .within) maps) pp pq (capped i) endings
 
-  -- up to 1,000 cd/m2, or 5 half positions and more below the knee, which a whole code is
-  nearer : (peak ≤ 1000) ⊎ (2 * m + 5 + positionOf (peak * units) ≤ 3 * 674406) → (i : Component) → Enclosed G peak i (AtMost 9 16 (codeOf peak x m i))
+  -- up to 1,000 cd/m2, or so many half positions below the knee, which a whole code is
+  nearer : (peak ≤ 1000) ⊎ (2 * m + kneeHalves + positionOf (peak * units) ≤ 3 * thousandAt)
+      → (i : Component) → Enclosed G peak i (AtMost 9 16 (codeOf peak x m i))
   nearer c =
       bounded (left I peak most c) (lit< tt) (lit< tt)
       (nine-sixteenths 1 1 roomAbove roomBelow (λ t. t + roomAbove) (λ t. t - roomBelow) sixteenths-high sixteenths-low (λ t. le-refl _) (λ t. le-refl _))
 
   near-two : (i : Component) → Enclosed G peak i (LessThan 2 (codeOf peak x m i))
-  near-two i = go (decLe peak 1000) (decLe (2 * m + 5 + positionOf (peak * units)) (3 * 674406))
+  near-two i = go (decLe peak 1000) (decLe (2 * m + kneeHalves + positionOf (peak * units)) (3 * thousandAt))
     where
       less : (d : ℕ) (g : Fraction) → AtMost 9 16 d g → LessThan 2 d g
       less d g h = omega (arith, g .pos)
 
-      go : Dec (peak ≤ 1000) → Dec (2 * m + 5 + positionOf (peak * units) ≤ 3 * 674406) → Enclosed G peak i (LessThan 2 (codeOf peak x m i))
+      go : Dec (peak ≤ 1000) → Dec (2 * m + kneeHalves + positionOf (peak * units) ≤ 3 * thousandAt) → Enclosed G peak i (LessThan 2 (codeOf peak x m i))
       go (yes h) c = wider (less _) (nearer (inl h) i)
       go (no h) (yes g) = wider (less _) (nearer (inr g) i)
       go (no h) (no g) =
@@ -128,7 +129,7 @@ module _ (peak : ℕ) (p : Pixel) (most : peak ≤ 10000) where
           let e : codeRead D - 64 ≡ 0 = omega arith in
           subst (λ c. Enclosed (ofCodes p) peak i (Inside c)) (sym (code-dark peak p (light-of-brightest p ∙ unlit D e) i)) (black e zero)
 
-  below : (peak ≤ 1000) ⊎ BelowKnee peak p → (peak ≤ 1000) ⊎ (2 * brightestPosition p + 5 + positionOf (peak * units) ≤ 3 * 674406)
+  below : (peak ≤ 1000) ⊎ BelowKnee peak p → (peak ≤ 1000) ⊎ (2 * brightestPosition p + kneeHalves + positionOf (peak * units) ≤ 3 * thousandAt)
   unfolding brightestPosition
   below (inl h) = inl h
   below (inr h) = inr (omega (arith, thousand-position))

@@ -25,13 +25,13 @@ pub record Enclosed (G : Given) (peak : ℕ) (i : Component) (Inside : Fraction 
   pub signals : (s : Side) → Signal G s peak i (fraction s)
   pub inside : (s : Side) → Inside (fraction s)
 
--- the brightest component is a whole code or more below the knee: 2m + 2,048 ≤ 3t − w. Where the curve cuts m at w, it fails with either m
+-- the brightest code lies a whole code or more under the knee: 2m + 2,048 ≤ 3t − w. Where the curve cuts m at w, it fails with either m
 abbrev pub BelowKnee : ℕ → Pixel → Type 0
 BelowKnee peak p = 2 * codePosition (brightest p) + 2048 + positionOf (peak * units) ≤ 3 * positionOf thousand
 
 -- demand 3 at one peak and one pixel
 pub record Voted (peak : ℕ) (p : Pixel) : Type 0 where
-  -- each code lies less than two codes from its exact value
+  -- each code is less than two codes away from its exact value
   pub near : (i : Component) → Enclosed (ofCodes p) peak i (LessThan 2 (code peak p i))
   -- and at most 9/16 of a code where the curve does not bend, or not yet
   pub nearer : (peak ≤ 1000) ⊎ BelowKnee peak p → (i : Component) → Enclosed (ofCodes p) peak i (AtMost 9 16 (code peak p i))

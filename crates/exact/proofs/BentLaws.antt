@@ -60,7 +60,8 @@ module _ {peak : ℕ} where
   bent-signal-ordered e f x z v u h a b =
       let J = max (e .J low * f .q) (f .J low * e .q) in
       let H = max (e .H low * f .q) (f .H low * e .q) in
-      let a′ = subst (λ y. BentSignal low (finer e (f .q) (f .pos)) y (v * f .q)) (smaller-scales x (e .H low) (f .q)) (finer-bent low e (f .q) (f .pos) (min x (e .H low)) v a) in
+      let a′ = subst (λ y. BentSignal low (finer e (f .q) (f .pos)) y (v * f .q)) (smaller-scales x (e .H low) (f .q))
+      (finer-bent low e (f .q) (f .pos) (min x (e .H low)) v a) in
       let b′ = subst (λ y. BentSignal high (finer f (e .q) (e .pos)) y (u * e .q)) (smaller-scales z (f .H high) (e .q)) (finer-bent high f (e .q) (e .pos) (min z (f .H high)) u b) in
       beside-ordered J H (min (x * f .q) H) (v * f .q) (u * e .q) (apart e f)
       (bent-sound (finer e (f .q) (f .pos)) J H (common e f J H (omega arith) (omega arith)) low (x * f .q) (x * f .q) (v * f .q) (le-refl (x * f .q)) a′)

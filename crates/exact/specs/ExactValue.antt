@@ -81,7 +81,7 @@ pub record Bent (G : Given) (s : Side) (peak : ℕ) (l : Fraction) : Type 0 wher
   pub bent : BentSignal s ends (min x (ends .H s)) v
   pub light : Light s (over v (ends .q) (ends .pos)) l
 
--- l, of the smaller of the brightest light and 1,000 cd/m2
+-- l, of the brightest light or 1,000 cd/m2, whichever is smaller
 abbrev pub Smaller : Given → Side → Fraction → Type 0
 Smaller G low l = Bounds low l (whole thousand) × G .Most low l
 Smaller G high l = Bounds high l (whole thousand) ⊎ G .Most high l

@@ -25,39 +25,6 @@ computed : ℕ → Pixel → Component → ℕ
 unfolding largest units thousand lightTable lightEntry codeLight bentLight mappedLight stepTable step reaches hlgCode brightestPosition code
 computed = code
 
--- ---- a peak of 1,000 cd/m2
-pure-red : Converts 1000 (pixel 723 64 64) 976 64 64
-unfolding computed
-pure-red = record { to-red = refl; to-green = refl; to-blue = refl }
-
-pure-green : Converts 1000 (pixel 64 723 64) 64 950 64
-unfolding computed
-pure-green = record { to-red = refl; to-green = refl; to-blue = refl }
-
-pure-blue : Converts 1000 (pixel 64 64 723) 64 64 1015
-unfolding computed
-pure-blue = record { to-red = refl; to-green = refl; to-blue = refl }
-
-yellow : Converts 1000 (pixel 723 723 64) 942 942 64
-unfolding computed
-yellow = record { to-red = refl; to-green = refl; to-blue = refl }
-
-cyan : Converts 1000 (pixel 64 723 723) 64 948 948
-unfolding computed
-cyan = record { to-red = refl; to-green = refl; to-blue = refl }
-
-magenta : Converts 1000 (pixel 723 64 723) 970 64 970
-unfolding computed
-magenta = record { to-red = refl; to-green = refl; to-blue = refl }
-
-white : Converts 1000 (pixel 723 723 723) 940 940 940
-unfolding computed
-white = record { to-red = refl; to-green = refl; to-blue = refl }
-
-first-code : Converts 1000 (pixel 65 65 65) 65 65 65
-unfolding computed
-first-code = record { to-red = refl; to-green = refl; to-blue = refl }
-
 -- ---- black, under any peak
 no-light : (c : ℕ) → codeLight c ≡ 0 → brightestLight (pixel c c c) ≡ 0
 unfolding brightestLight
@@ -68,34 +35,13 @@ all-dark peak c h =
     let d = code-dark peak (pixel c c c) (no-light c h) in
     record { to-red = d red; to-green = d green; to-blue = d blue }
 
-lowest : codeLight 4 ≡ 0
-unfolding codeLight lightEntry lightTable
-lowest = refl
-
-lowest-read : codeLight 64 ≡ 0
-unfolding codeLight lightEntry lightTable
-lowest-read = refl
-
 -- ---- past a peak above 1,000 cd/m2 the bent light is the light at the position of 1,000
-end-light : lightAt 674406 ≡ 16777066835
-unfolding lightAt lightEntry lightTable
-end-light = refl
-
 at-end : (peak : ℕ) → 1000 < peak → bentLight peak (lightAt 897024) 897024 ≡ 16777066835
-unfolding lastPosition
+unfolding lastPosition lightAt lightEntry lightTable
 at-end peak h =
     bent-at peak h 897024
     ∙ ap lightAt (curve-end (positionOf thousand) (positionOf (peak * units)) (peak-above peak h) (peak-near peak h) 897024 (position-is (peak * units) .range))
     ∙ ap lightAt thousand-position
-    ∙ end-light
-
-full : codeLight 940 ≡ 167772160000
-unfolding codeLight lightEntry lightTable
-full = refl
-
-full-read : codeLight 1019 ≡ 167772160000
-unfolding codeLight lightEntry lightTable
-full-read = refl
 
 -- a grey of light l keeps the light n that it is bent to
 bright : (peak : ℕ) (x : Pixel) (m l n : ℕ) → ((i : Component) → x i ≡ l) → 0 < l → bentOf peak x m ≡ n
@@ -128,27 +74,20 @@ shown peak c above h e = record { to-red = to red; to-green = to green; to-blue 
     to : (i : Component) → codeOf peak x m i ≡ 940
     to i = bright peak x m 167772160000 16777066835 (elim [ red ↦ h | green ↦ h | blue ↦ h ]) (lit< tt) bends i ∙ at-940
 
-above-peak : Converts 4000 (pixel 1019 1019 1019) 940 940 940
-unfolding brightestPosition
-above-peak = shown 4000 1019 (omega arith) full-read refl
-
-full-signal : Converts 10000 (pixel 940 940 940) 940 940 940
-unfolding brightestPosition
-full-signal = shown 10000 940 (omega arith) full refl
-
 pub corner-pixels : CornerPixels
+unfolding computed
 corner-pixels =
     record {
-      black = all-dark 1000 64 lowest-read;
-      pure-red = pure-red;
-      pure-green = pure-green;
-      pure-blue = pure-blue;
-      yellow = yellow;
-      cyan = cyan;
-      magenta = magenta;
-      white = white;
-      below-black = all-dark 4000 4 lowest;
-      above-peak = above-peak;
-      full-signal = full-signal;
-      first-code = first-code;
+      black = all-dark 1000 64 refl;
+      pure-red = record { to-red = refl; to-green = refl; to-blue = refl };
+      pure-green = record { to-red = refl; to-green = refl; to-blue = refl };
+      pure-blue = record { to-red = refl; to-green = refl; to-blue = refl };
+      yellow = record { to-red = refl; to-green = refl; to-blue = refl };
+      cyan = record { to-red = refl; to-green = refl; to-blue = refl };
+      magenta = record { to-red = refl; to-green = refl; to-blue = refl };
+      white = record { to-red = refl; to-green = refl; to-blue = refl };
+      below-black = all-dark 4000 4 refl;
+      above-peak = shown 4000 1019 (omega arith) refl refl;
+      full-signal = shown 10000 940 (omega arith) refl refl;
+      first-code = record { to-red = refl; to-green = refl; to-blue = refl };
     }

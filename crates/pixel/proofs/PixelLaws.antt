@@ -12,7 +12,7 @@ use Rattle.eetf.specs.Curve.{bentLight, mappedLight}
 use Rattle.eetf.proofs.CurveLaws.{bent-le-thousand}
 use Rattle.eetf.proofs.MappingLaws.{ratio-le}
 use Rattle.hlg.specs.Code.{hlgCode}
-use Rattle.hlg.proofs.CodeLaws.{code-to, code-black}
+use Rattle.hlg.proofs.CodeLaws.{code-black}
 use Rattle.pixel.specs.Conversion.{bentOf, mappedOf, lights, brightestLight, brightestPosition, bent, mapped, code}
 
 -- ---- lights x mapped to r: each keeps its ratio to the brightest, m, which becomes n; rounded down
@@ -88,7 +88,3 @@ bent-at-most peak p =
 pub mapped-at-most : (peak : ℕ) (p : Pixel) (i : Component) → mapped peak p i ≤ thousand
 unfolding mapped
 mapped-at-most peak p i = le-trans (mapped-le-bent peak (lights p) (brightestPosition p) i) (bent-at-most peak p)
-
-pub code-range : (peak : ℕ) (p : Pixel) (i : Component) → code peak p i ≤ 1019
-unfolding code
-code-range peak p i = code-to _ _

@@ -1,0 +1,205 @@
+#!/usr/bin/env python3
+"""The room that the found numbers of demand 3's proof have: crates/distance/proofs/FoundNumbers.antt against the stored tables.
+
+    python3 tools/slack.py            each number, the least and the most that would do beside the others, and what they come from
+    python3 tools/slack.py --check    the same in silence, unless a number is out of its room
+
+A law or a computed test of the proofs shows each number; nothing rests on this program. It says where a new table, a new bound
+or another depth leaves room, before a proof is tried. Whole numbers, but for the exponential, which has 60 decimals.
+"""
+import re
+import sys
+from decimal import Decimal, getcontext
+from pathlib import Path
+
+ROOT = Path(__file__).resolve().parent.parent
+PROOFS = ROOT / "crates/distance/proofs"
+getcontext().prec = 60
+UNITS, CELL = 2**24, 256
+C, K = 2**109, 48828125                  # the HLG comparison without its common factor: hlg/proofs/CancelledLaws
+BLUE, WEIGHTS = 593, 10000               # the least weight of the luminance, and the sum of the three
+PARTS, BELOW, ABOVE = 1, 0, 1            # how an entry encloses its light: `entries` of LightLaws, rounded down
+A, B, C_HLG = Decimal("0.17883277"), Decimal("0.28466892"), Decimal("0.55991073")
+
+
+def numbers():
+    """The found numbers by name; one is given by another."""
+    found = {}
+    for name, value in re.findall(r"^(\w+) = (.+)$", (PROOFS / "FoundNumbers.antt").read_text(encoding="utf-8"), re.M):
+        found[name] = eval(value, {}, found)
+    return found
+
+
+def table(path):
+    """The entries of a stored table."""
+    text = (ROOT / path).read_text(encoding="utf-8").split("List ℕ\n")[1]
+    return [int(n) for n in re.findall(r"(\d+) ∷", text)]
+
+
+N = numbers()
+LIGHTS = table("crates/pq/specs/LightTable.antt")
+STEPS = table("crates/hlg_steps/specs/StepTable.antt")
+
+
+def light_at(q):
+    k, f = divmod(q, CELL)
+    low, high = LIGHTS[min(k, len(LIGHTS) - 1)], LIGHTS[min(k + 1, len(LIGHTS) - 1)]
+    return low + (high - low) * f // CELL
+
+
+def position_of(light):
+    low, high = 0, CELL * (len(LIGHTS) - 1) + 1
+    while high - low > 1:
+        middle = (low + high) // 2
+        low, high = (middle, high) if light_at(middle) <= light else (low, middle)
+    return low
+
+
+def least(holds, high):
+    """The smallest number up to high that holds; larger ones hold too."""
+    low = -1
+    while high - low > 1:
+        middle = (low + high) // 2
+        low, high = (low, middle) if holds(middle) else (middle, high)
+    return high
+
+
+def most(holds, low, high=10**9):
+    """The largest number from low on that holds; smaller ones hold too."""
+    while high - low > 1:
+        middle = (low + high) // 2
+        low, high = (middle, high) if holds(middle) else (low, middle)
+    return low
+
+
+# ---- the tests of StepTests, with some of their numbers changed
+
+def add_high(**other):
+    n = {**N, **other}
+    s, g, v, u = n["resultAbove"], n["luminanceBelow"], n["slopeAbove"], n["roomAbove"]
+
+    def one(t):
+        f = max(BLUE * t, v * n["leastLuminance"])
+        return g * v < f and (t + s * v) ** 6 * f <= (t + u) ** 6 * (f - g * v)
+    return s * v <= u and all(map(one, STEPS))
+
+
+def add_low(**other):
+    n = {**N, **other}
+    s, h, v, l = n["resultBelow"], n["luminanceAbove"], n["slopeBelow"], n["roomBelow"]
+
+    def one(t):
+        f = max(BLUE * t, v * n["leastLuminance"])
+        return max(t - l, 0) ** 6 * (f + h * v) <= max(t - s * v, 0) ** 6 * f
+    return all(map(one, STEPS))
+
+
+def slope_above(**other):
+    n = {**N, **other}
+    return C <= n["slopeAbove"] ** 6 * K * max(n["leastLuminance"] - n["luminanceBelow"], 0)
+
+
+def slope_below(**other):
+    n = {**N, **other}
+    return C <= n["slopeBelow"] ** 6 * K * n["leastLuminance"]
+
+
+def between_steps(p, q, **other):
+    n = {**N, **other}
+    u, l = n["roomAbove"], n["roomBelow"]
+    return all(q**7 * (x + u) ** 6 <= p**7 * (y - 1) ** 6 and q**7 * x**6 <= p**7 * max(y - l, 0) ** 6 for x, y in zip(STEPS, STEPS[1:]))
+
+
+def scene_light(signal):
+    """In 1/2^40: the OETF backwards."""
+    return 2**40 * (signal * signal / 3 if 2 * signal <= 1 else (((signal - C_HLG) / A).exp() + B) / 12)
+
+
+def sixteenths(n):
+    """The scene lights n sixteenths of a code above the code before each step."""
+    return [scene_light(Decimal(16 * i + n) / 14016) for i in range(len(STEPS))]
+
+
+def slow(p, q, off=None, cells=None):
+    off = N["positionsOff"] if off is None else off
+    cells = range(N["firstCell"], N["firstCell"] + N["cells"]) if cells is None else cells
+    return all(
+        p * PARTS * light_at(CELL * k + CELL - 1 + off) <= q * (PARTS * LIGHTS[k] - BELOW)
+        and p * (PARTS * LIGHTS[k + 1] + ABOVE) <= q * PARTS * light_at(CELL * k - off) for k in cells)
+
+
+# ---- the curve under every peak, at the position of every ten-bit code
+
+T = position_of(1000 * UNITS)
+
+
+def spline(t, w, m):
+    return (27 * (w - t) ** 2 * t - 4 * (w - m) ** 3) // (27 * (w - t) ** 2)
+
+
+def bent():
+    """How far the bent signal's enclosure lies from the engine's position at most, J from t to t + 1 and H from w - 1 to w + 2; and the lowest of
+    those positions, which is at the first m from the knee on."""
+    off, lowest = 0, T
+    for peak in range(1001, 10001):
+        w = position_of(peak * UNITS)
+        low, high = 27 * (w - T - 2) ** 2, 27 * (w - T + 2) ** 2
+        first = (3 * T - N["kneeHalves"] - w) // 2 + 1
+        at = min(first, w)
+        lowest = min(lowest, at if 2 * at + w < 3 * T else spline(T, w, at))
+        for m in range(-(-first // 1024) * 1024, min(w, 897024) + 1024, 1024):
+            m = min(m, w)
+            s = m if 2 * m + w < 3 * T else spline(T, w, m)
+            below = min(T - -(-4 * (w + 2 - min(m, w - 1)) ** 3 // low), m)
+            above = T + 1 - 4 * max(w - 1 - m, 0) ** 3 // high
+            off = max(off, s - below, above - s)
+    return off, lowest
+
+
+def rows():
+    """name, the least that would do, the most, and where they come from"""
+    over, under = sixteenths(9), sixteenths(7)
+    nine_up = min(int(e) - t for e, t in zip(over, STEPS))
+    nine_down = min(t - int(-(-e // 1)) for e, t in zip(under, STEPS))
+    off, lowest = bent()
+    p, q = N["ratioUnder"], N["ratioOver"]
+    yield "leastLight", LIGHTS[1], LIGHTS[1], "entry 1"
+    yield "leastLuminance", least(lambda y: slope_above(leastLuminance=y) and slope_below(leastLuminance=y), 10**6), BLUE * LIGHTS[1], "slopes; entry 1"
+    yield "resultAbove", 3, most(lambda s: add_high(resultAbove=s), 0), "`sum-up`; room above"
+    yield "resultBelow", 2, most(lambda s: add_low(resultBelow=s), 0), "`sum-lo`, 3/2; room below"
+    yield "luminanceBelow", 3 * WEIGHTS // 2, most(lambda g: add_high(luminanceBelow=g) and slope_above(luminanceBelow=g), 0), "`sum-lo`; slope, room above"
+    yield "luminanceAbove", 3 * WEIGHTS, most(lambda h: add_low(luminanceAbove=h), 0), "`sum-up`; room below"
+    yield "slopeAbove", least(lambda v: slope_above(slopeAbove=v), 10**6), most(lambda v: add_high(slopeAbove=v), 0), "least luminance; room above"
+    yield "slopeBelow", least(lambda v: slope_below(slopeBelow=v), 10**6), most(lambda v: add_low(slopeBelow=v), 0), "least luminance; room below"
+    yield "roomAbove", least(lambda u: add_high(roomAbove=u), 10**6), min(nine_up, most(lambda u: between_steps(p, q, roomAbove=u), 0)), "units off; 9/16, ratio"
+    yield "roomBelow", least(lambda l: add_low(roomBelow=l), 10**6), min(nine_down, most(lambda l: between_steps(p, q, roomBelow=l), 0)), "units off; 7/16, ratio"
+    yield "ratioUnder", least(lambda n: n > 0 and between_steps(n, n + 1), 10**6), most(lambda n: slow(n, n + 1), 1), "steps; cells of bent light"
+    yield "ratioOver", p + 1, p + 1, "one more"
+    yield "positionsOff", off, most(lambda n: slow(p, q, n), 0, 1000), "codes under every peak; cells of bent light"
+    yield "kneeHalves", 5, 2048, "J high and H high; a whole code below the knee"
+    yield "leastBent", CELL * N["firstCell"] + N["positionsOff"], lowest, "first cell; lowest bent position"
+    yield "firstCell", least(lambda k: slow(p, q, cells=range(k, 2300)), 2300), (N["leastBent"] - N["positionsOff"]) // CELL, "ratio; lowest bent position"
+    yield "cells", (T + N["positionsOff"]) // CELL - N["firstCell"] + 1, len(LIGHTS) - 1 - N["firstCell"], "1,000 cd/m2; end of the table"
+    yield "thousandAt", T, T, "the position of 1,000 cd/m2"
+
+
+def main(arguments):
+    if arguments not in ([], ["--check"]):
+        print(__doc__, file=sys.stderr)
+        return 2
+    bad, told = 0, set()
+    for name, low, high, source in rows():
+        told.add(name)
+        value = N.get(name)
+        fits = value is not None and low <= value <= high
+        bad += not fits
+        if not arguments or not fits:
+            print(f"{name:16} {value!s:>8}{'' if fits else ' OUT OF ROOM'}  from {low:,} to {high:,}  ({source})")
+    for name in sorted(set(N) - told):
+        bad += 1
+        print(f"{name}: no room is known for it", file=sys.stderr)
+    return 1 if bad else 0
+
+
+if __name__ == "__main__":
+    sys.exit(main(sys.argv[1:]))
