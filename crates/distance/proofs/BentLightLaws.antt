@@ -24,8 +24,8 @@ use Rattle.eetf.proofs.SplineLaws.{curve, curve-stays, knee-curve-light}
 use Rattle.eetf.proofs.CurveLaws.{unbent, bent-by-curve, bent-le-self}
 use Rattle.exact.specs.ExactValue.{Value, Light, Given, Ends, BentSignal, BentLight}
 use Rattle.distance.proofs.FoundNumbers.{leastLight, ratioUnder, ratioOver, positionsOff, kneeHalves, thousandAt, leastBent}
-use Rattle.distance.proofs.NearLaws.{end, BentWithin}
-use Rattle.distance.proofs.LightLaws.{entries, around, light-low, light-high}
+use Rattle.distance.proofs.NearLaws.{end, around, BentWithin}
+use Rattle.distance.proofs.LightLaws.{entries, light-low, light-high}
 use Rattle.distance.proofs.BentSignalLaws.{Around, endsAround, are-around, straight, bent-low, bent-high, bent-range}
 use Rattle.distance.proofs.BentLightTests.{slow-at}
 
@@ -61,28 +61,29 @@ module _ (peak : ℕ) (more : 1000 < peak) (most : peak ≤ 10000) where
   unfolding ends
   stand = are-around peak thousandAt w far _ _ _ _
 
-  -- the bent light of X = m from the bent signal v and its light l
-  bent-by : (G : Given) (s : Side) (m v : ℕ) (l : Fraction) → G .X s (positionSignal m) → BentSignal s ends (min m (ends .H s)) v
+  -- the bent light from X's fraction x, the bent signal v and its light l
+  bent-by : (G : Given) (s : Side) (x v : ℕ) (l : Fraction) → G .X s (positionSignal x) → BentSignal s ends (min x (ends .H s)) v
       → Light s (positionSignal v) l → BentLight G s peak l
   unfolding BentLight ends
-  bent-by G s m v l a b h = inr (more, record { ends = ends; x = m; at = a; v = v; bent = b; light = h })
+  bent-by G s x v l a b h = inr (more, record { ends = ends; x = x; at = a; v = v; bent = b; light = h })
 
-  by-self : (G : Given) (s : Side) (m : ℕ) (l : Fraction) → 2 * m + kneeHalves + w ≤ 3 * thousandAt → G .X s (positionSignal m)
-      → Light s (positionSignal m) l → BentLight G s peak l
-  by-self G s m l h a c = bent-by G s m m l a (straight ends thousandAt w stand far near s m m h (omega arith)) c
+  -- X is at the position m, or between it and the next
+  pub by-self : (G : Given) (s : Side) (m x : ℕ) (l : Fraction) → 2 * m + kneeHalves + w ≤ 3 * thousandAt → x ≤ m + 1 → G .X s (positionSignal x)
+      → Light s (positionSignal x) l → BentLight G s peak l
+  by-self G s m x l h k a c = bent-by G s x x l a (straight ends thousandAt w stand far near s m x h k) c
 
   -- what the light at m is mapped to is the light at the curve's position
-  abbrev bentAt : ℕ → ℕ
+  abbrev pub bentAt : ℕ → ℕ
   bentAt m = curve thousandAt w m
 
-  to-light : (m : ℕ) → bentLight peak (lightAt m) m ≡ lightAt (bentAt m)
+  pub to-light : (m : ℕ) → bentLight peak (lightAt m) m ≡ lightAt (bentAt m)
   unfolding lightAt
   to-light m =
       bent-by-curve peak (lightAt m) m more
       ∙ ap (λ t. kneeCurve lightEntry t (positionOf (peak * units)) (lightAt m) m) thousand-position
       ∙ knee-curve-light thousandAt w up near lightEntry m
 
-  stays : (m : ℕ) → 2 * m + kneeHalves + w ≤ 3 * thousandAt → bentLight peak (lightAt m) m ≡ lightAt m
+  pub stays : (m : ℕ) → 2 * m + kneeHalves + w ≤ 3 * thousandAt → bentLight peak (lightAt m) m ≡ lightAt m
   stays m h = to-light m ∙ ap lightAt (curve-stays thousandAt w up near m (omega arith))
 
   -- from there on
@@ -90,18 +91,18 @@ module _ (peak : ℕ) (more : 1000 < peak) (most : peak ≤ 10000) where
     bends : 3 * thousandAt < 2 * min m w + kneeHalves + w
     bends = omega (arith, far, h)
 
-    range : (leastBent ≤ bentAt m) × (bentAt m ≤ thousandAt)
+    pub range : (leastBent ≤ bentAt m) × (bentAt m ≤ thousandAt)
     range = bent-range w m (omega (arith, far)) last bends
 
-    by-low : (G : Given) (l : Fraction) → G .X low (positionSignal m) → Light low (positionSignal (bentAt m - positionsOff)) l → BentLight G low peak l
-    by-low G l a c =
-        bent-by G low m (bentAt m - positionsOff) l a
-        (bent-low ends thousandAt w stand far near m m (bentAt m - positionsOff) bends (le-refl m) (omega (arith, range))) c
+    pub by-low : (G : Given) (x : ℕ) (l : Fraction) → m ≤ x → G .X low (positionSignal x)
+        → Light low (positionSignal (bentAt m - positionsOff)) l → BentLight G low peak l
+    by-low G x l k a c =
+        bent-by G low x (bentAt m - positionsOff) l a (bent-low ends thousandAt w stand far near m x (bentAt m - positionsOff) bends k (omega (arith, range))) c
 
-    by-high : (G : Given) (l : Fraction) → G .X high (positionSignal m) → Light high (positionSignal (bentAt m + positionsOff)) l → BentLight G high peak l
-    by-high G l a c =
-        bent-by G high m (bentAt m + positionsOff) l a
-        (bent-high ends thousandAt w stand far near m m (bentAt m + positionsOff) bends (omega arith) (le-refl _)) c
+    pub by-high : (G : Given) (x : ℕ) (l : Fraction) → x ≤ m + 1 → G .X high (positionSignal x)
+        → Light high (positionSignal (bentAt m + positionsOff)) l → BentLight G high peak l
+    by-high G x l k a c =
+        bent-by G high x (bentAt m + positionsOff) l a (bent-high ends thousandAt w stand far near m x (bentAt m + positionsOff) bends k (le-refl _)) c
 
 -- ---- a pixel of lights x that gives G: X is the signal of the position m of an index, and the brightest light is that of X
 pub record Indexed (G : Given) (x : Pixel) (m : ℕ) : Type 0 where
@@ -112,13 +113,13 @@ pub record Indexed (G : Given) (x : Pixel) (m : ℕ) : Type 0 where
   pub seen : 0 < G .level
   pub lit : brightest x ≡ lightAt m
   pub signal : (s : Side) → G .X s (positionSignal m)
-  pub own : (s : Side) (i : Component) → G .Own s i (around s (x i))
+  pub own : (s : Side) (i : Component) → G .Own s i (around entries s (x i))
   pub most : (s : Side) (l : Fraction) → Light s (positionSignal m) l → G .Most s l
 
 -- parts of units on both sides of the bent light, within a ratio of what the brightest light is mapped to
 pub record Enclosure (p q : ℕ) (G : Given) (peak m : ℕ) : Type 0 where
   pub b : Side → ℕ
-  pub lights : (s : Side) → BentLight G s peak (over (b s) (entries .parts) (around s 0 .pos))
+  pub lights : (s : Side) → BentLight G s peak (over (b s) (entries .parts) (entries .pos))
   pub within : BentWithin entries p q (lightAt m) (bentLight peak (lightAt m) m) b
 
 second-entry : lightEntry 1 ≡ leastLight
@@ -140,11 +141,11 @@ module _ {G : Given} {x : Pixel} {m : ℕ} (I : Indexed G x m) (peak : ℕ) (mos
   lit-light = omega (arith, at-entry, second-entry, entries-grow 1 (I .k) (I .some))
 
   -- the light of X
-  pub own-light : (s : Side) (l : Fraction) → Bounds s l (around s (lightAt m)) → Light s (positionSignal m) l
+  pub own-light : (s : Side) (l : Fraction) → Bounds s l (around entries s (lightAt m)) → Light s (positionSignal m) l
   own-light low l c =
-      light-low (I .k) l (I .some) (I .range) (record { cross = omega (arith, I .at) }) (subst (λ e. l ≼ around low e) at-entry (record { cross = c }))
+      light-low (I .k) l (I .some) (I .range) (record { cross = omega (arith, I .at) }) (subst (λ e. l ≼ around entries low e) at-entry (record { cross = c }))
   own-light high l c =
-      light-high (I .k) l (I .range) (record { cross = omega (arith, I .at) }) (subst (λ e. around high e ≼ l) at-entry (record { cross = c }))
+      light-high (I .k) l (I .range) (record { cross = omega (arith, I .at) }) (subst (λ e. around entries high e ≼ l) at-entry (record { cross = c }))
 
   -- a peak up to 1,000: n is the brightest light, cut at 1,000 cd/m2
   up-to-thousand : peak ≤ 1000 → Enclosure 1 1 G peak m
@@ -154,12 +155,12 @@ module _ {G : Given} {x : Pixel} {m : ℕ} (I : Indexed G x m) (peak : ℕ) (mos
       is : n ≡ min (lightAt m) thousand
       is = unbent peak (lightAt m) m h
 
-      top : Dec (thousand ≤ lightAt m) → BentLight G high peak (around high n)
+      top : Dec (thousand ≤ lightAt m) → BentLight G high peak (around entries high n)
       top (yes g) = inl (h, inl (omega (arith, is)))
-      top (no g) = inl (h, inr (I .most high (around high n) (own-light high (around high n) (omega (arith, is)))))
+      top (no g) = inl (h, inr (I .most high (around entries high n) (own-light high (around entries high n) (omega (arith, is)))))
 
-      side : (s : Side) → BentLight G s peak (around s n)
-      side low = inl (h, (omega (arith, is), I .most low (around low n) (own-light low (around low n) (omega (arith, is)))))
+      side : (s : Side) → BentLight G s peak (around entries s n)
+      side low = inl (h, (omega (arith, is), I .most low (around entries low n) (own-light low (around entries low n) (omega (arith, is)))))
       side high = top (decLe thousand (lightAt m))
 
       within : BentWithin entries 1 1 (lightAt m) n (λ s. end entries s n)
@@ -172,8 +173,10 @@ module _ {G : Given} {x : Pixel} {m : ℕ} (I : Indexed G x m) (peak : ℕ) (mos
       is : n ≡ lightAt m
       is = stays peak above most m h
 
-      side : (s : Side) → BentLight G s peak (around s (lightAt m))
-      side s = by-self peak above most G s m (around s (lightAt m)) h (I .signal s) (own-light s (around s (lightAt m)) (at-refl s _))
+      side : (s : Side) → BentLight G s peak (around entries s (lightAt m))
+      side s =
+          by-self peak above most G s m m (around entries s (lightAt m)) h (omega arith) (I .signal s)
+          (own-light s (around entries s (lightAt m)) (at-refl s _))
 
       within : BentWithin entries 1 1 (lightAt m) n (λ s. end entries s (lightAt m))
       within = record { lower = omega (arith, is); upper = omega (arith, is); bent = omega (arith, is); seen = omega (arith, is, lit-light) }
@@ -209,12 +212,12 @@ module _ {G : Given} {x : Pixel} {m : ℕ} (I : Indexed G x m) (peak : ℕ) (mos
       b low = end entries low (lightEntry j)
       b high = end entries high (lightEntry (i + 1))
 
-      side : (e : Side) → BentLight G e peak (over (b e) (entries .parts) (around e 0 .pos))
+      side : (e : Side) → BentLight G e peak (over (b e) (entries .parts) (entries .pos))
       side low =
-          by-low peak above most m h G _ (I .signal low)
+          by-low peak above most m h G m _ (le-refl m) (I .signal low)
           (light-low j _ (omega (arith, r)) (omega (arith, r)) (record { cross = omega arith }) (record { cross = le-refl _ }))
       side high =
-          by-high peak above most m h G _ (I .signal high)
+          by-high peak above most m h G m _ (omega arith) (I .signal high)
           (light-high (i + 1) _ (omega (arith, r)) (record { cross = omega arith }) (record { cross = le-refl _ }))
 
       lower : ratioUnder * end entries low n ≤ ratioOver * end entries low (lightEntry j)

@@ -7,7 +7,7 @@ use native.Mathlib.Numerals.{add-one}
 use native.Mathlib.Decide.{decLe}
 use native.Mathlib.Omega.{arith}
 use lib.Dec.{lit≤}
-use Rattle.laws.specs.Fraction.{Fraction, over, _≼_}
+use Rattle.laws.specs.Fraction.{Fraction, _≼_}
 use Rattle.laws.specs.Side.{Side, low, high, other}
 use Rattle.laws.proofs.FractionLaws.{≼-trans, ≼-zero}
 use Rattle.pq.specs.Pq.{indexSignal}
@@ -17,23 +17,19 @@ use Rattle.pq.proofs.EntryLaws.{entry-at-most, next-above, entry-first}
 use Rattle.position.specs.Position.{codeRead, codeIndex, codeLight}
 use Rattle.exact.specs.ExactValue.{signal, Value, Light}
 use Rattle.exact.proofs.FinerLaws.{same-value}
-use Rattle.distance.proofs.NearLaws.{Rounding, end}
+use Rattle.distance.proofs.NearLaws.{Rounding, around}
 
 -- rounded down: an entry's light lies from its units to one more
 abbrev pub entries : Rounding
-entries = record { parts = 1; below = 0; above = 1; upward = lit≤ tt; narrow = lit≤ tt }
-
--- u units on the side s
-abbrev pub around : Side → ℕ → Fraction
-around s u = over (end entries s u) (entries .parts) (zero-lt-suc 0)
+entries = record { parts = 1; pos = zero-lt-suc 0; below = 0; above = 1; upward = lit≤ tt; narrow = lit≤ tt }
 
 -- what is below an entry is a lower fraction of the light of its signal and of any larger one
-pub light-low : {x : Fraction} (k : ℕ) (l : Fraction) → 0 < k → k ≤ 3504 → indexSignal k ≼ x → l ≼ around low (lightEntry k) → Light low x l
+pub light-low : {x : Fraction} (k : ℕ) (l : Fraction) → 0 < k → k ≤ 3504 → indexSignal k ≼ x → l ≼ around entries low (lightEntry k) → Light low x l
 unfolding Light Value
 light-low k l p h g c = inr (at-most-light (at-most-signal (entry-at-most k p h) g) (≼-trans c (record { cross = omega arith })))
 
 -- and what is above it an upper fraction of the light of its signal and of any smaller one
-pub light-high : {x : Fraction} (k : ℕ) (l : Fraction) → k ≤ 3504 → x ≼ indexSignal k → around high (lightEntry k) ≼ l → Light high x l
+pub light-high : {x : Fraction} (k : ℕ) (l : Fraction) → k ≤ 3504 → x ≼ indexSignal k → around entries high (lightEntry k) ≼ l → Light high x l
 unfolding Light Value
 light-high k l h g c =
     inr (at-least-light (at-least-signal (at-least-of-above (next-above k h)) g) (≼-trans (record { cross = omega (arith, add-one (lightEntry k)) }) c))
@@ -54,11 +50,11 @@ pub unlit : (D : ℕ) → codeRead D - 64 ≡ 0 → codeLight D ≡ 0
 unlit D e = let z : codeIndex D ≡ 0 = omega arith in rw (code-entry D, z) entry-first
 
 -- the light of a code lies around its entry
-pub code-light : (s : Side) (D : ℕ) → Light s (signal D) (around s (codeLight D))
+pub code-light : (s : Side) (D : ℕ) → Light s (signal D) (around entries s (codeLight D))
 unfolding Light
 code-light high D = light-high (codeIndex D) _ (omega arith) (record { cross = omega arith }) (record { cross = omega (arith, code-entry D) })
 code-light low D = go (decLe 1 (codeRead D - 64))
   where
-    go : Dec (1 ≤ codeRead D - 64) → Light low (signal D) (around low (codeLight D))
+    go : Dec (1 ≤ codeRead D - 64) → Light low (signal D) (around entries low (codeLight D))
     go (yes h) = light-low (codeIndex D) _ (omega arith) (omega arith) (record { cross = omega arith }) (record { cross = omega (arith, code-entry D) })
     go (no h) = let e : codeRead D - 64 ≡ 0 = omega arith in inl (e, omega (arith, unlit D e))

@@ -6,6 +6,7 @@ use native.Mathlib.Nat.{le-trans, mul-le-mul, mul-le-mul-left, mul-le-mul-right,
 use native.Mathlib.Decide.{decLe}
 use native.Mathlib.Omega.{arith}
 use lib.Dec.{lit≤}
+use Rattle.laws.specs.Fraction.{Fraction, over}
 use Rattle.laws.specs.Side.{Side, low, high, other}
 use Rattle.quantity.specs.Component.{Component, red, green, blue, Pixel, weighted}
 use Rattle.pixel.proofs.PixelLaws.{Floor, Mapped}
@@ -22,6 +23,7 @@ pub record Near (s g s' h p q : ℕ) (n : Side → Pixel) (d : Side → ℕ) (r 
 -- how a light of u units is enclosed, in parts of a unit: from so many below u to so many above, and no wider than a unit
 pub record Rounding : Type 0 where
   pub parts : ℕ
+  pub pos : 0 < parts
   pub below : ℕ
   pub above : ℕ
   pub upward : below ≤ above
@@ -30,6 +32,9 @@ pub record Rounding : Type 0 where
 abbrev pub end : Rounding → Side → ℕ → ℕ
 end R low u = R .parts * u - R .below
 end R high u = R .parts * u + R .above
+
+abbrev pub around : Rounding → Side → ℕ → Fraction
+around R s u = over (end R s u) (R .parts) (R .pos)
 
 -- parts b enclose the bent light within the ratio of what encloses n, to which the brightest light m is mapped
 pub record BentWithin (R : Rounding) (p q m n : ℕ) (b : Side → ℕ) : Type 0 where
@@ -125,6 +130,10 @@ module _ (R : Rounding) {p q m n : ℕ} {b : Side → ℕ} {x r : Pixel} (B : Be
 
   pub least : leastLuminance ≤ weighted r
   least = let top = P .brightest in omega (arith, own (top .0), brightest-ge brightest-pos (top .1) (P .floors (top .0)), B .seen)
+
+  pub end-pos : (s : Side) → 0 < end R s m
+  end-pos low = let two : 2 ≤ m = omega (arith, B .seen, B .bent) in omega (arith, mul-le-mul-left (R .parts) two, R .narrow, R .pos)
+  end-pos high = omega (arith, mul-le-mul-left (R .parts) brightest-pos, R .pos)
 
   from : (u : ℕ) → R .parts * u ≤ end R low u + R .below
   from u = omega arith

@@ -1,23 +1,27 @@
--- From a pixel's results, three a side over one denominator, to the enclosed HLG signals of its codes; and a black pixel. How the results were got
--- is not its matter.
-use mathlib.Core.Path.{_≡_, refl}
+-- From a pixel's results, three a side over one denominator, to the enclosed HLG signals of its codes, however the results were got; then from lights
+-- that a rounding encloses; and a black pixel.
+use mathlib.Core.Path.{_≡_, refl, subst}
 use mathlib.Core.Logic.{inl, inr}
-use Prim.Native.Nat.{ℕ, _≤_, _<_}
+use Prim.Native.Nat.{ℕ, _*_, _≤_, _<_}
+use native.Mathlib.Nat.{le-trans, mul-pos}
 use native.Mathlib.Omega.{arith}
 use lib.Dec.{lit≤}
 use Rattle.laws.specs.Fraction.{Fraction, over}
-use Rattle.laws.specs.Side.{Side, other}
+use Rattle.laws.specs.Side.{Side, other, At}
+use Rattle.laws.proofs.SideLaws.{at-refl}
 use Rattle.quantity.specs.Units.{thousand}
 use Rattle.quantity.specs.Component.{Component, Pixel, weighted}
 use Rattle.hlg_steps.specs.Signal.{HlgSignal}
 use Rattle.hlg_steps.specs.Steps.{scene}
 use Rattle.hlg.specs.Code.{hlgCode}
-use Rattle.exact.specs.ExactValue.{Given, Result, Signal}
+use Rattle.exact.specs.ExactValue.{Given, BentLight, Result, Signal}
 use Rattle.distance.specs.Demand.{Enclosed}
 use Rattle.hlg.proofs.CancelledLaws.{code-is}
 use Rattle.distance.proofs.SceneBounds.{Scaled, scene-bounds}
-use Rattle.distance.proofs.NearLaws.{Near}
-use Rattle.distance.proofs.StepLaws.{Room, past-thousand}
+use Rattle.pixel.proofs.PixelLaws.{Mapped}
+use Rattle.distance.proofs.FoundNumbers.{roomAbove, roomBelow}
+use Rattle.distance.proofs.NearLaws.{Near, Rounding, end, around, BentWithin, numerators, denominators, mapped-le, brightest-pos, end-pos, least, near}
+use Rattle.distance.proofs.StepLaws.{Room, room, past-thousand}
 use Rattle.distance.proofs.CodeDistance.{code-below, Ending, ending-scene, none}
 
 pub record Results (G : Given) (peak : ℕ) (n : Side → Pixel) (d : Side → ℕ) : Type 0 where
@@ -60,6 +64,36 @@ module _ {G : Given} {peak : ℕ} {n : Side → Pixel} {d : Side → ℕ} (F : R
         signals = λ s. signal-of s i (E s .e) (E s .g) (ending-scene R N enough pp pq c top s (E s .e) (E s .fits)) (E s .signal);
         inside = λ s. E s .inside;
       }
+
+cancel : (s : Side) (o t e z : ℕ) → At s (o * t * e * (z * z)) (o * t * (z * e * z))
+cancel s o t e z = subst (λ k. At s k (o * t * (z * e * z))) (omega arith) (at-refl s (o * t * (z * e * z)))
+
+-- ---- results from lights x, the brightest of them m, that a rounding encloses, and from an enclosed bent light
+module _ (R : Rounding) {G : Given} {peak p q m n : ℕ} {b : Side → ℕ} {x r : Pixel} (seen : 0 < G .level)
+    (own : (s : Side) (i : Component) → G .Own s i (around R s (x i)))
+    (most : (s : Side) → G .Most s (around R s m)) (bent : (s : Side) → BentLight G s peak (over (b s) (R .parts) (R .pos)))
+    (B : BentWithin R p q m n b) (P : Mapped m n x r) (top : n ≤ thousand) where
+  results : Results G peak (numerators R x b) (denominators R m)
+  results =
+      record {
+        seen = seen;
+        pos = λ s. mul-pos (R .pos) (end-pos R B P (other s));
+        results = λ s i. record {
+          own = around R s (x i);
+          own-light = own s i;
+          bent = over (b s) (R .parts) (R .pos);
+          bent-light = bent s;
+          most = around R (other s) m;
+          most-light = most (other s);
+          some = end-pos R B P (other s);
+          bounds = cancel s (end R s (x i)) (b s) (end R (other s) m) (R .parts);
+        };
+      }
+
+  pub bounded : {Inside : ℕ → Fraction → Type 0} → 0 < p → 0 < q → ((c : ℕ) → 64 ≤ c → c ≤ 1015 → Ending p q roomAbove roomBelow c (Inside c))
+      → (i : Component) → Enclosed G peak i (Inside (hlgCode (weighted r) (r i)))
+  bounded pp pq endings i =
+      within results room (near R B P i) (least R B P) pp pq (le-trans (mapped-le (brightest-pos R B P) (P .inside i) (P .floors i)) top) endings
 
 -- a bound inside another
 pub wider : {G : Given} {peak : ℕ} {i : Component} {A B : Fraction → Type 0} → ((g : Fraction) → A g → B g) → Enclosed G peak i A → Enclosed G peak i B

@@ -2,14 +2,13 @@
 use mathlib.Core.Path.{_≡_, _∙_, sym, subst}
 use mathlib.Core.Logic.{_⊎_, inl, inr}
 use Prim.Native.Nat.{ℕ, _+_, _-_, _*_, _≤_, _<_}
-use native.Mathlib.Nat.{le-refl, le-trans, lt-of-not-le}
+use native.Mathlib.Nat.{le-refl, lt-of-not-le}
 use native.Mathlib.Decide.{decLe}
 use native.Mathlib.Omega.{arith}
 use lib.Dec.{lit<}
-use Rattle.laws.specs.Fraction.{Fraction, over}
-use Rattle.laws.specs.Side.{Side, low, high, other, At}
+use Rattle.laws.specs.Fraction.{Fraction}
 use Rattle.laws.proofs.SideLaws.{at-refl}
-use Rattle.quantity.specs.Units.{units, thousand}
+use Rattle.quantity.specs.Units.{units}
 use Rattle.quantity.specs.Component.{Component, Pixel, brightest}
 use Rattle.pq.specs.Pq.{positionSignal}
 use Rattle.position.specs.Position.{codeRead, codeIndex, codePosition, lightAt, positionOf}
@@ -20,15 +19,13 @@ use Rattle.eetf.proofs.CurveLaws.{bent-le-thousand}
 use Rattle.pixel.specs.Conversion.{mappedOf, codeOf, lights, brightestPosition, code}
 use Rattle.pixel.proofs.PixelLaws.{Mapped, ratio-kept, bent-of-light, light-of-brightest, brightest-lit, code-dark, mapped-at-most}
 use Rattle.pixel.proofs.OrderLaws.{ordered, greys}
-use Rattle.exact.specs.ExactValue.{Given, ofCodes, signal, Result}
+use Rattle.exact.specs.ExactValue.{Given, ofCodes, signal}
 use Rattle.distance.specs.Demand.{LessThan, AtMost, Enclosed, BelowKnee, Voted, Demand}
 use Rattle.distance.proofs.FoundNumbers.{roomAbove, roomBelow, ratioUnder, ratioOver, kneeHalves, thousandAt}
-use Rattle.distance.proofs.NearLaws.{end, near, least, mapped-le, numerators, denominators}
 use Rattle.distance.proofs.StepTests.{sixteenths-low, sixteenths-high, ratios}
-use Rattle.distance.proofs.StepLaws.{room}
 use Rattle.distance.proofs.CodeDistance.{Ending, nine-sixteenths, less-than-two, none}
-use Rattle.distance.proofs.PixelDistance.{within, wider, black}
-use Rattle.distance.proofs.LightLaws.{entries, around, same-light, unlit, code-light}
+use Rattle.distance.proofs.PixelDistance.{bounded, wider, black}
+use Rattle.distance.proofs.LightLaws.{entries, same-light, unlit, code-light}
 use Rattle.distance.proofs.BentLightLaws.{Indexed, Enclosure, lit-light, own-light, left, on-curve}
 
 -- ---- a pixel whose brightest light is that of an index, m being its position
@@ -41,45 +38,18 @@ module _ {G : Given} {x : Pixel} {m : ℕ} (I : Indexed G x m) (peak : ℕ) (mos
       subst (λ M. Mapped M (bentLight peak (lightAt m) m) x (mappedOf peak x m)) (I .lit)
       (subst (λ n. Mapped (brightest x) n x (mappedOf peak x m)) (bent-of-light peak x m (I .lit)) (ratio-kept peak x m (omega (arith, I .lit, some))))
 
-  capped : (i : Component) → mappedOf peak x m i ≤ thousand
-  capped i = le-trans (mapped-le some (maps .inside i) (maps .floors i)) (bent-le-thousand peak m)
-
-  -- from an enclosure of the bent light to the results, and to the bound that the ratio allows
-  module _ {p q : ℕ} (E : Enclosure p q G peak m) where
-    end-pos : (s : Side) → 0 < end entries s (lightAt m)
-    end-pos low = omega (arith, lit-light I peak most)
-    end-pos high = omega arith
-
-    divisor : (s : Side) → 0 < denominators entries (lightAt m) s
-    divisor s = omega (arith, end-pos (other s))
-
-    result : (s : Side) (i : Component) → Result G s peak i (over (numerators entries x (E .b) s i) (denominators entries (lightAt m) s) (divisor s))
-    result s i =
-        record {
-          own = around s (x i);
-          own-light = I .own s i;
-          bent = over (E .b s) (entries .parts) (around s 0 .pos);
-          bent-light = E .lights s;
-          most = around (other s) (lightAt m);
-          most-light = I .most (other s) _ (own-light I peak most (other s) _ (at-refl (other s) _));
-          some = end-pos (other s);
-          bounds =
-              subst (λ z. At s z (end entries s (x i) * E .b s * (denominators entries (lightAt m) s * entries .parts))) (omega arith)
-              (at-refl s (end entries s (x i) * E .b s * (denominators entries (lightAt m) s * entries .parts)));
-        }
-
-    bounded : {Inside : ℕ → Fraction → Type 0} → 0 < p → 0 < q → ((c : ℕ) → 64 ≤ c → c ≤ 1015 → Ending p q roomAbove roomBelow c (Inside c))
-        → (i : Component) → Enclosed G peak i (Inside (codeOf peak x m i))
-    unfolding codeOf
-    bounded pp pq endings i =
-        let near-results = near entries (E .within) maps i in
-        within (record { seen = I .seen; pos = divisor; results = result }) room near-results (least entries (E .within) maps) pp pq (capped i) endings
+  -- from an enclosure of the bent light to the bound that its ratio allows
+  by-enclosure : {p q : ℕ} {Inside : ℕ → Fraction → Type 0} → Enclosure p q G peak m → 0 < p → 0 < q
+      → ((c : ℕ) → 64 ≤ c → c ≤ 1015 → Ending p q roomAbove roomBelow c (Inside c)) → (i : Component) → Enclosed G peak i (Inside (codeOf peak x m i))
+  unfolding codeOf
+  by-enclosure E =
+      bounded entries (I .seen) (I .own) (λ s. I .most s _ (own-light I peak most s _ (at-refl s _))) (E .lights) (E .within) maps (bent-le-thousand peak m)
 
   -- up to 1,000 cd/m2, or so many half positions below the knee, which a whole code is
   nearer : (peak ≤ 1000) ⊎ (2 * m + kneeHalves + positionOf (peak * units) ≤ 3 * thousandAt)
       → (i : Component) → Enclosed G peak i (AtMost 9 16 (codeOf peak x m i))
   nearer c =
-      bounded (left I peak most c) (lit< tt) (lit< tt)
+      by-enclosure (left I peak most c) (lit< tt) (lit< tt)
       (nine-sixteenths 1 1 roomAbove roomBelow (λ t. t + roomAbove) (λ t. t - roomBelow) sixteenths-high sixteenths-low (λ t. le-refl _) (λ t. le-refl _))
 
   near-two : (i : Component) → Enclosed G peak i (LessThan 2 (codeOf peak x m i))
@@ -92,7 +62,7 @@ module _ {G : Given} {x : Pixel} {m : ℕ} (I : Indexed G x m) (peak : ℕ) (mos
       go (yes h) c = wider (less _) (nearer (inl h) i)
       go (no h) (yes g) = wider (less _) (nearer (inr g) i)
       go (no h) (no g) =
-          bounded (on-curve I peak most (lt-of-not-le h) (lt-of-not-le g)) (lit< tt) (lit< tt)
+          by-enclosure (on-curve I peak most (lt-of-not-le h) (lt-of-not-le g)) (lit< tt) (lit< tt)
           (less-than-two ratioUnder ratioOver roomAbove roomBelow ratios) i
 
 -- ---- codes: the position of each is that of an index

@@ -62,7 +62,8 @@ module _ {peak : ℕ} where
       let H = max (e .H low * f .q) (f .H low * e .q) in
       let a′ = subst (λ y. BentSignal low (finer e (f .q) (f .pos)) y (v * f .q)) (smaller-scales x (e .H low) (f .q))
       (finer-bent low e (f .q) (f .pos) (min x (e .H low)) v a) in
-      let b′ = subst (λ y. BentSignal high (finer f (e .q) (e .pos)) y (u * e .q)) (smaller-scales z (f .H high) (e .q)) (finer-bent high f (e .q) (e .pos) (min z (f .H high)) u b) in
+      let b′ = subst (λ y. BentSignal high (finer f (e .q) (e .pos)) y (u * e .q)) (smaller-scales z (f .H high) (e .q))
+      (finer-bent high f (e .q) (e .pos) (min z (f .H high)) u b) in
       beside-ordered J H (min (x * f .q) H) (v * f .q) (u * e .q) (apart e f)
       (bent-sound (finer e (f .q) (f .pos)) J H (common e f J H (omega arith) (omega arith)) low (x * f .q) (x * f .q) (v * f .q) (le-refl (x * f .q)) a′)
       (bent-sound (finer f (e .q) (e .pos)) J H (common f e J H (omega arith) (omega arith)) high (z * e .q) (x * f .q) (u * e .q) h b′)
@@ -86,7 +87,8 @@ module _ {peak : ℕ} where
       go : Dec (3 * f .J high ≤ 2 * min x (f .H low) + f .H low) → Dec (x ≤ f .H low) → (x ≤ u) ⊎ (f .q ≤ 20 * u)
       go (yes k) d =
           let c = f .H low - f .J high in
-          let knee = above-knee (f .H low - min x (f .H low)) c c u (f .J high) (omega (arith, f .apart)) (omega (arith, f .apart)) (le-refl c) (beside .bent k) in
+          let knee = above-knee (f .H low - min x (f .H low)) c c u (f .J high) (omega (arith, f .apart)) (omega (arith, f .apart)) (le-refl c)
+          (beside .bent k) in
           inr (omega (arith, f .apart, J-least, H-most))
       go (no k) (yes l) = inl (omega (arith, beside .straight (lt-of-not-le k)))
       go (no k) (no l) = inr (omega (arith, beside .straight (lt-of-not-le k), f .apart, J-least))

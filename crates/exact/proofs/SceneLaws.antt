@@ -55,7 +55,8 @@ module _ {G : Given} (S : Sound G) {peak : ℕ} where
       go (yes z) = z
       go (no z) =
           let e : r .num ≡ 0 = omega arith in
-          let none : y .own .num * y .bent .num * (r .den * y .most .den) ≤ 0 = omega (arith, y .bounds, ap (λ n. n * y .most .num * (y .own .den * y .bent .den)) e) in
+          let nothing = ap (λ n. n * y .most .num * (y .own .den * y .bent .den)) e in
+          let none : y .own .num * y .bent .num * (r .den * y .most .den) ≤ 0 = omega (arith, y .bounds, nothing) in
           absurd (not-le-of-lt (mul-pos some (mul-pos (r .pos) (y .most .pos))) none)
 
   -- ---- luminance
