@@ -25,6 +25,28 @@ computed : ℕ → Pixel → Component → ℕ
 unfolding largest units thousand lightTable lightEntry codeLight bentLight mappedLight stepTable step reaches hlgCode brightestPosition code
 computed = code
 
+-- ---- a peak of 1,000 cd/m2: document 002's colours, and the first code
+colours :
+    Converts 1000 (pixel 723 64 64) 976 64 64 ×
+    Converts 1000 (pixel 64 723 64) 64 950 64 ×
+    Converts 1000 (pixel 64 64 723) 64 64 1015 ×
+    Converts 1000 (pixel 723 723 64) 942 942 64 ×
+    Converts 1000 (pixel 64 723 723) 64 948 948 ×
+    Converts 1000 (pixel 723 64 723) 970 64 970 ×
+    Converts 1000 (pixel 723 723 723) 940 940 940 ×
+    Converts 1000 (pixel 65 65 65) 65 65 65
+unfolding computed
+colours = (
+  record { to-red = refl; to-green = refl; to-blue = refl },
+  record { to-red = refl; to-green = refl; to-blue = refl },
+  record { to-red = refl; to-green = refl; to-blue = refl },
+  record { to-red = refl; to-green = refl; to-blue = refl },
+  record { to-red = refl; to-green = refl; to-blue = refl },
+  record { to-red = refl; to-green = refl; to-blue = refl },
+  record { to-red = refl; to-green = refl; to-blue = refl },
+  record { to-red = refl; to-green = refl; to-blue = refl },
+)
+
 -- ---- black, under any peak
 no-light : (c : ℕ) → codeLight c ≡ 0 → brightestLight (pixel c c c) ≡ 0
 unfolding brightestLight
@@ -79,15 +101,15 @@ unfolding computed
 corner-pixels =
     record {
       black = all-dark 1000 64 refl;
-      pure-red = record { to-red = refl; to-green = refl; to-blue = refl };
-      pure-green = record { to-red = refl; to-green = refl; to-blue = refl };
-      pure-blue = record { to-red = refl; to-green = refl; to-blue = refl };
-      yellow = record { to-red = refl; to-green = refl; to-blue = refl };
-      cyan = record { to-red = refl; to-green = refl; to-blue = refl };
-      magenta = record { to-red = refl; to-green = refl; to-blue = refl };
-      white = record { to-red = refl; to-green = refl; to-blue = refl };
+      pure-red = colours .0;
+      pure-green = colours .1;
+      pure-blue = colours .2;
+      yellow = colours .3;
+      cyan = colours .4;
+      magenta = colours .5;
+      white = colours .6;
       below-black = all-dark 4000 4 refl;
       above-peak = shown 4000 1019 (omega arith) refl refl;
       full-signal = shown 10000 940 (omega arith) refl refl;
-      first-code = record { to-red = refl; to-green = refl; to-blue = refl };
+      first-code = colours .7;
     }
