@@ -1,20 +1,19 @@
--- Laws of a card, from the definitions: which bytes have an unknown bit, what an accepted card has, what an answer is told by.
-use Prim.Native.Nat.{ℕ, _<_, _≤_}
+-- Laws of a card, from the definitions: which bytes have an unknown bit, what each outcome says of a card, and what bytes that come after it change.
+use Prim.Native.Nat.{ℕ, _+_, _*_, _-_, _<_, _≤_}
 use mathlib.Core.Bool.{Bool, true, false, cond, _||_, _&&_, true≢false}
-use mathlib.Core.List.{List}
-use mathlib.Core.Option.{Option, none, some}
-use mathlib.Core.Path.{_≡_, refl}
-use lib.ListN.{length, getD}
-use lib.Dec.{eqb}
-use borrow.Author.Tests.{ne-eqb, le-ltb, eqb-true, eqb-false, ltb-false}
+use mathlib.Core.List.{List, [], _++_}
+use mathlib.Core.Path.{_≡_, refl, sym, ap, _∙_}
 use native.Mathlib.Omega.{arith}
-use Rattle.metadata.specs.Card.{bit, stands, maxCLL, masteringPeak, cardBytes, unknownBit, cutShort, outOfRange, fieldOutOfRange, refusal, peak, peakGiven, refusalNumber, peakValue, cardEnd}
-use Rattle.metadata.specs.declared.PeakAnswer.{PeakAnswer}
-use Rattle.metadata.specs.declared.PeakAnswer.the-variants.{Peak, Refused}
-
-or-false : (a b : Bool) → (a || b) ≡ false → (a ≡ false) × (b ≡ false)
-or-false true b h = absurd (true≢false h)
-or-false false b h = (refl, h)
+use lib.ListN.{length, getD, drop, length-append, drop-of-length-le, List·getD-append}
+use lib.Seq.{drop-append-le}
+use lib.Dec.{eqb, ltb}
+use borrow.Author.Tests.{ne-eqb, eq-eqb, lt-ltb, le-ltb, eqb-true, eqb-false, ltb-true, ltb-false}
+use Rattle.quantity.specs.declared.Source.{Source}
+use Rattle.big_endian.specs.BigEndian.{numberAt}
+use Rattle.metadata.specs.Card.{bit, stands, maxCLL, masteringPeak, cardBytes, unknownBit, cutShort, outOfRange, fieldOutOfRange}
+use Rattle.metadata.specs.Card.{peak, declared, cardAnswer, following, cardWants}
+use Rattle.metadata.specs.declared.SourceAnswer.{SourceAnswer}
+use Rattle.metadata.specs.declared.SourceAnswer.the-variants.{Declared, Refused}
 
 one-of : (a b c d e : Bool) → (a ≡ false → b ≡ false → c ≡ false → d ≡ false → e ≡ false → ⊥) → (a || b || c || d || e) ≡ true
 one-of true b c d e h = refl
@@ -25,94 +24,232 @@ one-of false false false false true h = refl
 one-of false false false false false h = absurd (h refl refl refl refl refl)
 
 -- In a byte above 7 one of bits 3 to 7 stands: if none does, each in turn halves the byte's bound.
-pub unknown-bit : (card : List ℕ) → getD card 0 0 < 256 → 7 < getD card 0 0 → unknownBit card ≡ true
+pub unknown-bit : (card : List ℕ) → getD card 0 0 < 256 → ltb 7 (getD card 0 0) ≡ unknownBit card
 unfolding unknownBit
-unknown-bit card byte h =
-    one-of (stands 3 card) (stands 4 card) (stands 5 card) (stands 6 card) (stands 7 card)
-    (λ p q r s t.
-    let no-7 : getD card 0 0 < 128 = omega (arith, eqb-false (bit 7 card) 1 t) in
-    let no-6 : getD card 0 0 < 64 = omega (arith, eqb-false (bit 6 card) 1 s) in
-    let no-5 : getD card 0 0 < 32 = omega (arith, eqb-false (bit 5 card) 1 r) in
-    let no-4 : getD card 0 0 < 16 = omega (arith, eqb-false (bit 4 card) 1 q) in
-    omega (arith, eqb-false (bit 3 card) 1 p))
+unknown-bit card byte = go (ltb 7 (getD card 0 0)) refl
+  where
+    go : (b : Bool) → ltb 7 (getD card 0 0) ≡ b → b ≡ (stands 3 card || stands 4 card || stands 5 card || stands 6 card || stands 7 card)
+    go true e =
+        let above = ltb-true 7 (getD card 0 0) e in
+        sym
+        (one-of (stands 3 card) (stands 4 card) (stands 5 card) (stands 6 card) (stands 7 card)
+        (λ p q r s t.
+        let no-7 : getD card 0 0 < 128 = omega (arith, eqb-false (bit 7 card) 1 t) in
+        let no-6 : getD card 0 0 < 64 = omega (arith, eqb-false (bit 6 card) 1 s) in
+        let no-5 : getD card 0 0 < 32 = omega (arith, eqb-false (bit 5 card) 1 r) in
+        let no-4 : getD card 0 0 < 16 = omega (arith, eqb-false (bit 4 card) 1 q) in
+        omega (arith, eqb-false (bit 3 card) 1 p)))
+    go false e =
+        let within = ltb-false 7 (getD card 0 0) e in
+        let three = ne-eqb (bit 3 card) 1 (omega arith) in
+        let four = ne-eqb (bit 4 card) 1 (omega arith) in
+        let five = ne-eqb (bit 5 card) 1 (omega arith) in
+        let six = ne-eqb (bit 6 card) 1 (omega arith) in
+        simp (three, four, five, six, ne-eqb (bit 7 card) 1 (omega arith))
 
-pub no-unknown-bit : (card : List ℕ) → getD card 0 0 ≤ 7 → unknownBit card ≡ false
-unfolding unknownBit
-no-unknown-bit card h =
-    simp (ne-eqb (bit 3 card) 1 (omega arith), ne-eqb (bit 4 card) 1 (omega arith), ne-eqb (bit 5 card) 1 (omega arith), ne-eqb (bit 6 card) 1 (omega arith), ne-eqb (bit 7 card) 1 (omega arith))
+-- What each outcome of the tests says of a card: its answer, how many bytes it wants, and why.
+pub data Outcome (card : List ℕ) : Type 0 where
+  empty : length card ≡ 0 → cardAnswer card ≡ Refused 1 → cardWants card ≡ 1 → Outcome card
+  unknown : 0 < length card → unknownBit card ≡ true → cardAnswer card ≡ Refused 2 → cardWants card ≡ 0 → Outcome card
+  cut : 0 < length card → unknownBit card ≡ false → length card < cardBytes card → cardAnswer card ≡ Refused 3
+      → cardWants card ≡ cardBytes card - length card → Outcome card
+  outside : unknownBit card ≡ false → cardBytes card ≤ length card → fieldOutOfRange card ≡ true → cardAnswer card ≡ Refused 4
+      → cardWants card ≡ 0 → Outcome card
+  taken : unknownBit card ≡ false → cardBytes card ≤ length card → fieldOutOfRange card ≡ false → cardAnswer card ≡ Declared (declared card)
+      → cardWants card ≡ 0 → Outcome card
 
--- Past tests 1 to 3 the fields' range decides.
-pub fields-decide : (card : List ℕ) → 0 < length card → getD card 0 0 ≤ 7 → cardBytes card ≤ length card → refusal card ≡ cond (fieldOutOfRange card) 4 0
-unfolding refusal
-fields-decide card some-byte known there =
-    simp (ne-eqb (length card) 0 (omega arith), no-unknown-bit card known, le-ltb (length card) (cardBytes card) there)
+pub outcome : (card : List ℕ) → Outcome card
+unfolding cardAnswer cardWants
+outcome card = go (eqb (length card) 0) (unknownBit card) (cutShort card) (fieldOutOfRange card) refl refl refl refl
+  where
+    some-byte : eqb (length card) 0 ≡ false → 0 < length card
+    some-byte p = let n = eqb-false (length card) 0 p in omega arith
 
-none-met : (card : List ℕ) (a b c d : Bool) → eqb (length card) 0 ≡ a → unknownBit card ≡ b → cutShort card ≡ c → fieldOutOfRange card ≡ d → refusal card ≡ 0 → (c ≡ false) × (d ≡ false)
-unfolding refusal
-none-met card true b c d p q r s h = absurd (omega (arith, simp p at h))
-none-met card false true c d p q r s h = absurd (omega (arith, simp (p, q) at h))
-none-met card false false true true p q r s h = absurd (omega (arith, simp (p, q, r, s) at h))
-none-met card false false true false p q r s h = absurd (omega (arith, simp (p, q, r, s) at h))
-none-met card false false false true p q r s h = absurd (omega (arith, simp (p, q, r, s) at h))
-none-met card false false false false p q r s h = (refl, refl)
+    go : (a b c d : Bool) → eqb (length card) 0 ≡ a → unknownBit card ≡ b → cutShort card ≡ c → fieldOutOfRange card ≡ d → Outcome card
+    go true b c d p q r s = empty (eqb-true (length card) 0 p) (simp p) (simp p)
+    go false true c d p q r s = unknown (some-byte p) q (simp (p, q)) (simp (p, q))
+    go false false true d p q r s =
+        cut (some-byte p) q (ltb-true (length card) (cardBytes card) r) (simp (p, q, r)) (simp (p, q))
+    go false false false true p q r s =
+        let whole = ltb-false (length card) (cardBytes card) r in
+        outside q whole s (simp (p, q, r, s)) (simp (p, q) (omega arith))
+    go false false false false p q r s =
+        let whole = ltb-false (length card) (cardBytes card) r in
+        taken q whole s (simp (p, q, r, s)) (simp (p, q) (omega arith))
 
-accepted : (card : List ℕ) → refusal card ≡ 0 → (cutShort card ≡ false) × (fieldOutOfRange card ≡ false)
-accepted card h =
-    none-met card (eqb (length card) 0) (unknownBit card) (cutShort card) (fieldOutOfRange card) refl refl refl refl h
+-- An accepted card has all its bytes, and declares what its fields say.
+pub accepted : (card : List ℕ) {source : Source} → cardAnswer card ≡ Declared source
+    → (cardBytes card ≤ length card) × (fieldOutOfRange card ≡ false) × (source ≡ declared card)
+accepted card {source} h = go (outcome card)
+  where
+    go : Outcome card → (cardBytes card ≤ length card) × (fieldOutOfRange card ≡ false) × (source ≡ declared card)
+    go (empty l e w) = let z : _≡_ {A = ℕ} 0 1 = cc in absurd (omega arith)
+    go (unknown l u e w) = let z : _≡_ {A = ℕ} 0 1 = cc in absurd (omega arith)
+    go (cut l u s e w) = let z : _≡_ {A = ℕ} 0 1 = cc in absurd (omega arith)
+    go (outside u l f e w) = let z : _≡_ {A = ℕ} 0 1 = cc in absurd (omega arith)
+    go (taken u l f e w) = (l, f, cc)
 
--- A card that nothing refuses has all its bytes.
-pub all-there : (card : List ℕ) → refusal card ≡ 0 → cardBytes card ≤ length card
-all-there card h = ltb-false (length card) (cardBytes card) (accepted card h .0)
+-- An accepted card wants no byte.
+pub wants-none : (card : List ℕ) {source : Source} → cardAnswer card ≡ Declared source → cardWants card ≡ 0
+wants-none card {source} h = go (outcome card)
+  where
+    go : Outcome card → cardWants card ≡ 0
+    go (empty l e w) = cc
+    go (unknown l u e w) = w
+    go (cut l u s e w) = cc
+    go (outside u l f e w) = w
+    go (taken u l f e w) = w
+
+or-false : (a b : Bool) → (a || b) ≡ false → (a ≡ false) × (b ≡ false)
+or-false true b h = absurd (true≢false h)
+or-false false b h = (refl, h)
 
 in-range : (v : ℕ) → outOfRange v ≡ false → (1 ≤ v) × (v ≤ 10000)
+unfolding outOfRange
 in-range v h =
     let p = or-false _ _ h in
     let low = eqb-false v 0 (p .0) in
     let high = ltb-false 10000 v (p .1) in
     omega arith
 
-chosen : (a b d : Bool) (x y : ℕ) → ((a && outOfRange x) || (b && outOfRange y)) ≡ false → (1 ≤ cond a x (cond b y (cond d 10000 4000))) × (cond a x (cond b y (cond d 10000 4000)) ≤ 10000)
+chosen : (a b d : Bool) (x y : ℕ) → ((a && outOfRange x) || (b && outOfRange y)) ≡ false
+    → (1 ≤ cond a x (cond b y (cond d 10000 4000))) × (cond a x (cond b y (cond d 10000 4000)) ≤ 10000)
 chosen true b d x y h = in-range x (or-false (outOfRange x) _ h .0)
 chosen false true d x y h = in-range y h
 chosen false false true x y h = omega arith
 chosen false false false x y h = omega arith
 
 -- The peak of an accepted card lies from 1 to 10,000, so that refusal 5 never meets it.
-pub peak-in-range : (card : List ℕ) → refusal card ≡ 0 → (1 ≤ peak card) × (peak card ≤ 10000)
-unfolding peak
+pub peak-in-range : (card : List ℕ) {source : Source} → cardAnswer card ≡ Declared source → (1 ≤ source .peak) × (source .peak ≤ 10000)
+unfolding peak fieldOutOfRange
 peak-in-range card h =
-    chosen (stands 0 card) (stands 1 card) (stands 2 card) (maxCLL card) (masteringPeak card) (accepted card h .1)
+    let a = accepted card h in
+    rw (a .2) (chosen (stands 0 card) (stands 1 card) (stands 2 card) (maxCLL card) (masteringPeak card) (a .1))
 
-end-in : (card : List ℕ) (b : Bool) → eqb (refusal card) 0 ≡ b → cond b (cardBytes card) (length card) ≤ length card
-end-in card true h = all-there card (eqb-true (refusal card) 0 h)
-end-in card false h = omega arith
+-- What follows an accepted card begins after its bytes.
+pub after-card : (card : List ℕ) {source : Source} → cardAnswer card ≡ Declared source → following card ≡ drop (cardBytes card) card
+unfolding following
+after-card card h = simp h
 
--- What follows a card begins within the bytes.
-pub end-within : (card : List ℕ) → cardEnd card ≤ length card
-unfolding cardEnd
-end-within card = end-in card (eqb (refusal card) 0) refl
+-- A card takes its bit map and at most two fields.
+at-least-one : (card : List ℕ) → 1 ≤ cardBytes card
+unfolding cardBytes
+at-least-one card = omega arith
 
--- Number and value leave no choice of the answer.
-pub same-answer : (r s : PeakAnswer) → refusalNumber r ≡ refusalNumber s → peakValue r ≡ peakValue s → r ≡ s
-same-answer (Peak p) (Peak q) n v = cc
-same-answer (Peak p) (Refused m) n v = cc
-same-answer (Refused n) (Peak p) m v = cc
-same-answer (Refused n) (Refused m) e v = cc
+pub at-most-five : (card : List ℕ) → cardBytes card ≤ 5
+unfolding cardBytes
+at-most-five card = omega arith
 
-given-in : (n p v : ℕ) (b : Bool) → eqb n 0 ≡ b → some v ≡ cond b (some p) none → (n ≡ 0) × (v ≡ p)
-given-in n p v true e h = (eqb-true n 0 e, cc)
-given-in n p v false e h = (cc, cc)
+where-standing : (stands : Bool) (x y : ℕ) → (stands ≡ true → x ≡ y) → (stands && outOfRange x) ≡ (stands && outOfRange y)
+where-standing true x y h = ap outOfRange (h refl)
+where-standing false x y h = refl
 
--- A peak is given only by an accepted card, and is that card's.
-pub given : (card : List ℕ) (value : ℕ) → peakValue (Peak value) ≡ peakGiven card → (refusal card ≡ 0) × (value ≡ peak card)
-unfolding peakGiven
-given card value h = given-in (refusal card) (peak card) value (eqb (refusal card) 0) refl h
+where-chosen : (stands : Bool) (x y : ℕ) {z w : ℕ} → (stands ≡ true → x ≡ y) → z ≡ w → cond stands x z ≡ cond stands y w
+where-chosen true x y h e = h refl
+where-chosen false x y h e = e
 
-refused-in : (n p : ℕ) (b : Bool) → eqb n 0 ≡ b → _≡_ {A = Option ℕ} none (cond b (some p) none) → 0 < n
-refused-in n p true e h = let z : _≡_ {A = ℕ} 0 1 = cc in omega arith
-refused-in n p false e h = let ne = eqb-false n 0 e in omega arith
+-- Bytes that come after those of a card.
+module _ (card more : List ℕ) where
+  longer : length (card ++ more) ≡ length card + length more
+  longer = simp length-append
 
--- No value is given only for a card that is refused.
-pub refused : (card : List ℕ) (number : ℕ) → peakValue (Refused number) ≡ peakGiven card → 0 < refusal card
-unfolding peakGiven
-refused card number h = refused-in (refusal card) (peak card) (eqb (refusal card) 0) refl h
+  same-map : 0 < length card → getD (card ++ more) 0 0 ≡ getD card 0 0
+  same-map h = List·getD-append card more 0 0 h
+
+  same-bytes : 0 < length card → cardBytes (card ++ more) ≡ cardBytes card
+  unfolding cardBytes
+  same-bytes h = rw (same-map h)
+
+  same-unknown : 0 < length card → unknownBit (card ++ more) ≡ unknownBit card
+  unfolding unknownBit
+  same-unknown h = rw (same-map h)
+
+  -- A number whose bytes are there stays.
+  pub same-number : (i : ℕ) → i + 2 ≤ length card → numberAt (card ++ more) i ≡ numberAt card i
+  unfolding numberAt
+  same-number i h = rw (List·getD-append card more 0 i (omega arith), List·getD-append card more 0 (i + 1) (omega arith))
+
+  module _ (whole : cardBytes card ≤ length card) where
+    some-byte : 0 < length card
+    unfolding cardBytes
+    some-byte = omega arith
+
+    same-max-cll : stands 0 card ≡ true → maxCLL (card ++ more) ≡ maxCLL card
+    unfolding cardBytes
+    same-max-cll e = let b = eqb-true (bit 0 card) 1 e in same-number 1 (omega arith)
+
+    same-mastering-peak : stands 1 card ≡ true → masteringPeak (card ++ more) ≡ masteringPeak card
+    unfolding cardBytes
+    same-mastering-peak e =
+        let b = eqb-true (bit 1 card) 1 e in
+        rw (same-map some-byte) (same-number (1 + 2 * bit 0 card) (omega arith))
+
+    same-fields : fieldOutOfRange (card ++ more) ≡ fieldOutOfRange card
+    unfolding fieldOutOfRange
+    same-fields =
+        let first = where-standing (stands 0 card) (maxCLL (card ++ more)) (maxCLL card) same-max-cll in
+        let second = where-standing (stands 1 card) (masteringPeak (card ++ more)) (masteringPeak card) same-mastering-peak in
+        rw (← first, ← second) (rw (same-map some-byte))
+
+    same-peak : peak (card ++ more) ≡ peak card
+    unfolding peak
+    same-peak =
+        let last : ℕ = cond (stands 2 card) 10000 4000 in
+        let second = where-chosen (stands 1 card) (masteringPeak (card ++ more)) (masteringPeak card) {z = last} same-mastering-peak refl in
+        let first = where-chosen (stands 0 card) (maxCLL (card ++ more)) (maxCLL card) same-max-cll second in
+        rw (← first) (rw (same-map some-byte))
+
+  -- A card that wants no byte answers the same whatever comes after it.
+  pub settled : cardWants card ≡ 0 → cardAnswer (card ++ more) ≡ cardAnswer card
+  unfolding cardAnswer
+  settled h = go (outcome card)
+    where
+      some : 0 < length card → eqb (length (card ++ more)) 0 ≡ false
+      some l = ne-eqb (length (card ++ more)) 0 (omega (arith, longer))
+
+      uncut : cardBytes card ≤ length card → cutShort (card ++ more) ≡ false
+      uncut l =
+          le-ltb (length (card ++ more)) (cardBytes (card ++ more)) (omega (arith, longer, same-bytes (some-byte l)))
+
+      go : Outcome card → cardAnswer (card ++ more) ≡ cardAnswer card
+      go (empty l e w) = absurd (omega arith)
+      go (unknown l u e w) = rw e (simp (some l, same-unknown l ∙ u))
+      go (cut l u s e w) = absurd (omega arith)
+      go (outside u l f e w) =
+          let first = some-byte l in
+          rw e (simp (some first, same-unknown first ∙ u, uncut l, same-fields l ∙ f))
+      go (taken u l f e w) =
+          let first = some-byte l in
+          rw e (simp (some first, same-unknown first ∙ u, uncut l, same-fields l ∙ f, same-peak l))
+
+  -- What comes after an accepted card's bytes follows the card.
+  pub follows : {source : Source} → cardAnswer card ≡ Declared source → following (card ++ more) ≡ following card ++ more
+  follows {source} h =
+      let whole = accepted card h .0 in
+      let joined = after-card (card ++ more) (settled (wants-none card h) ∙ h) in
+      let bytes = ap (λ (n : ℕ). drop n (card ++ more)) (same-bytes (some-byte whole)) in
+      joined ∙ bytes ∙ drop-append-le (cardBytes card) card more whole ∙ rw (after-card card h)
+
+  -- Fewer bytes than a card wants leave it wanting the others.
+  pub wants-on : length more < cardWants card → cardWants (card ++ more) ≡ cardWants card - length more
+  unfolding cardWants
+  wants-on h = go (outcome card)
+    where
+      go : Outcome card → cardWants (card ++ more) ≡ cardWants card - length more
+      go (empty l e w) = simp (eq-eqb (length (card ++ more)) 0 (omega (arith, longer))) (omega arith)
+      go (unknown l u e w) = absurd (omega arith)
+      go (cut l u s e w) =
+          simp (ne-eqb (length (card ++ more)) 0 (omega (arith, longer)), same-unknown l ∙ u) (omega (arith, longer, same-bytes l))
+      go (outside u l f e w) = absurd (omega arith)
+      go (taken u l f e w) = absurd (omega arith)
+
+  -- No more bytes than a card wants leave none over.
+  pub none-over : 0 < cardWants card → length more ≤ cardWants card → length (card ++ more) ≤ cardBytes (card ++ more)
+  none-over some-wanted h = go (outcome card)
+    where
+      go : Outcome card → length (card ++ more) ≤ cardBytes (card ++ more)
+      go (empty l e w) = omega (arith, longer, at-least-one (card ++ more))
+      go (unknown l u e w) = absurd (omega arith)
+      go (cut l u s e w) = omega (arith, longer, same-bytes l)
+      go (outside u l f e w) = absurd (omega arith)
+      go (taken u l f e w) = absurd (omega arith)

@@ -1,133 +1,42 @@
-// The card that precedes a picture: its declared peak or refusal, and the bytes that follow it.
+// The card that precedes a picture: what it declares of the picture, or its refusal, and the bytes that follow it.
 // Each call takes the caller's bytes from the card's first on, with whatever comes after it.
 ghost use mathlib.Core.Path.{_≡_};
-ghost use mathlib.Core.Bool.{_&&_};
-ghost use Prim.Native.Nat.{_+_, _*_, _/_, _%_, _<_, _≤_};
-ghost use lib.ListN.{length, getD};
+ghost use mathlib.Core.Bool.{cond, _&&_};
+ghost use Prim.Native.Nat.{_/_, _%_, _<_, _≤_};
 ghost use lib.Dec.{eqb};
-ghost use Rattle.metadata.specs.Card.{fieldValue, cardBytes, outOfRange, refusal, peak, peakGiven, refusalNumber, peakValue, cardEnd, following};
+ghost use lib.ListN.{length, getD};
+ghost use Rattle.metadata.specs.Card.{cardAnswer, endAfter, following, cardWants, cardBytes, unknownBit};
+ghost use Rattle.metadata.specs.Card.{fieldOutOfRange, outOfRange, masteringPeak, peak};
+use big_endian::byte_at;
+use big_endian::number_at;
+use quantity::Source;
 
-pub enum PeakAnswer {
-    // whole cd/m2, from 1 to 10,000
-    Peak(u64),
+pub enum SourceAnswer {
+    // what the card declares of its picture: a peak from 1 to 10,000 cd/m2
+    Declared(Source),
     // the number of the refusal, from 1 to 4
     Refused(u64),
 }
 
-fn wide(byte: u8) -> u64
-    ensures { λ r. ⌜ (r ≡ byte) × (r < 256) ⌝ }
-{
-    byte as u64
-}
-
-// The bit of this weight in the card's bit map, 0 or 1.
-fn bit_of(card: &[u8], weight: u64) -> u64
-    requires { ⌜ (0 < length (now card)) × (0 < weight) ⌝ }
-    ensures { λ r. ⌜ r ≡ getD (now (card .entry)) 0 0 / weight % 2 ⌝ }
-{
-    wide(card[0]) / weight % 2
-}
-
-// The value in cd/m2 of the field that `preceding` others precede.
-fn field(card: &[u8], preceding: u64) -> u64
-    requires { ⌜ 3 + 2 * preceding ≤ length (now card) ⌝ }
-    ensures { λ r. ⌜ r ≡ fieldValue preceding (now (card .entry)) ⌝ }
-{
-    let at = 1 + 2 * preceding as usize;
-    let high = wide(card[at]);
-    let low = wide(card[at + 1]);
-    high * 256 + low
-}
-
-// Whether the field that `preceding` others precede stands, as its bit says, and is out of range.
-fn field_refused(card: &[u8], bit: u64, preceding: u64) -> bool
-    requires { ⌜ 1 + 2 * preceding + 2 * bit ≤ length (now card) ⌝ }
-    ensures { λ r. ⌜ r ≡ (eqb bit 1 && outOfRange (fieldValue preceding (now (card .entry)))) ⌝ }
-{
-    if bit != 1 {
-        return false;
-    }
-    let value = field(card, preceding);
-    if value == 0 {
-        return true;
-    }
-    10000 < value
-}
-
-// Length in bytes of the fields that stand: all of the card but its bit map.
-fn fields_len(card: &[u8]) -> usize
-    requires { ⌜ 0 < length (now card) ⌝ }
-    ensures { λ r. ⌜ 1 + r ≡ cardBytes (now (card .entry)) ⌝ }
-{
-    2 * (bit_of(card, 1) + bit_of(card, 2)) as usize
-}
-
-// The first refusal that the card meets, or 0. Every field that stands is tested, also one that does not decide the peak.
-fn refusal_of_metadata(card: &[u8]) -> u64
-    ensures { λ r. ⌜ r ≡ refusal (now (card .entry)) ⌝ }
+// What the card declares of its picture, or its refusal, 1 to 4. Every field that stands is tested, also one that does not decide the peak.
+pub fn source_of_metadata(card: &[u8]) -> SourceAnswer
+    ensures { λ r. ⌜ r ≡ cardAnswer (now (card .entry)) ⌝ }
 {
     if card.len() == 0 {
-        return 1;
+        return SourceAnswer::Refused(1);
     }
-    let map = wide(card[0]);
-    if 7 < map {
-        return 2;
+    if has_unknown_bit(card) {
+        return SourceAnswer::Refused(2);
     }
-    let len = 1 + fields_len(card);
-    if card.len() < len {
-        return 3;
+    if card.len() < length_of_card(card) {
+        return SourceAnswer::Refused(3);
     }
-    let max_cll = bit_of(card, 1);
-    let mastering_peak = bit_of(card, 2);
-    if field_refused(card, max_cll, 0) {
-        return 4;
+    if has_field_out_of_range(card) {
+        return SourceAnswer::Refused(4);
     }
-    if field_refused(card, mastering_peak, max_cll) {
-        return 4;
-    }
-    0
-}
-
-// The peak of a card whose fields are all there.
-fn peak_of_fields(card: &[u8]) -> u64
-    requires { ⌜ cardBytes (now card) ≤ length (now card) ⌝ }
-    ensures { λ r. ⌜ r ≡ peak (now (card .entry)) ⌝ }
-{
-    let max_cll = bit_of(card, 1);
-    let mastering_peak = bit_of(card, 2);
-    let unconstrained = bit_of(card, 4);
-    if max_cll == 1 {
-        return field(card, 0);
-    }
-    if mastering_peak == 1 {
-        return field(card, max_cll);
-    }
-    if unconstrained == 1 {
-        return 10000;
-    }
-    4000
-}
-
-// The peak that the card declares, or its refusal, 1 to 4.
-pub fn peak_of_metadata(card: &[u8]) -> PeakAnswer
-    ensures { λ r. ⌜ (refusalNumber r ≡ refusal (now (card .entry))) × (peakValue r ≡ peakGiven (now (card .entry))) ⌝ }
-{
-    let number = refusal_of_metadata(card);
-    if number != 0 {
-        return PeakAnswer::Refused(number);
-    }
-    PeakAnswer::Peak(peak_of_fields(card))
-}
-
-// Where the bytes begin that follow the card: at its end, or at the end of all bytes where it is refused.
-fn end_of_metadata(card: &[u8]) -> usize
-    ensures { λ r. ⌜ r ≡ cardEnd (now (card .entry)) ⌝ }
-{
-    let number = refusal_of_metadata(card);
-    if number != 0 {
-        return card.len();
-    }
-    1 + fields_len(card)
+    SourceAnswer::Declared(Source {
+        peak: peak_of_fields(card),
+    })
 }
 
 // The bytes after the card; none where the card is refused.
@@ -136,4 +45,101 @@ pub fn after_metadata(card: &[u8]) -> &[u8]
 {
     let end = end_of_metadata(card);
     &card[end..]
+}
+
+// How many bytes the card still wants before it can be answered: its bit map, then its fields.
+pub fn bytes_wanted(card: &[u8]) -> usize
+    ensures { λ r. ⌜ r ≡ cardWants (now (card .entry)) ⌝ }
+{
+    if card.len() == 0 {
+        return 1;
+    }
+    if has_unknown_bit(card) {
+        return 0;
+    }
+    let whole = length_of_card(card);
+    if card.len() < whole {
+        return whole - card.len();
+    }
+    0
+}
+
+// Where the bytes begin that follow the card: at its end, or at the end of all bytes where it is refused.
+fn end_of_metadata(card: &[u8]) -> usize
+    ensures { λ r. ⌜ (r ≡ endAfter (cardAnswer (now (card .entry))) (now (card .entry))) × (r ≤ length (now (card .entry))) ⌝ }
+{
+    let answer = source_of_metadata(card);
+    match answer {
+        SourceAnswer::Declared(_) => length_of_card(card),
+        SourceAnswer::Refused(_) => card.len(),
+    }
+}
+
+// Length in bytes of the bit map and of the fields that stand.
+fn length_of_card(card: &[u8]) -> usize
+    ensures { λ r. ⌜ r ≡ cardBytes (now (card .entry)) ⌝ }
+{
+    1 + 2 * (bit_of(card, 1) + bit_of(card, 2)) as usize
+}
+
+// The bit of this weight in the card's bit map, 0 or 1.
+fn bit_of(card: &[u8], weight: u64) -> u64
+    requires { ⌜ 0 < weight ⌝ }
+    ensures { λ r. ⌜ (r ≡ getD (now (card .entry)) 0 0 / weight % 2) × (r < 2) ⌝ }
+{
+    byte_at(card, 0) / weight % 2
+}
+
+fn has_unknown_bit(card: &[u8]) -> bool
+    ensures { λ r. ⌜ r ≡ unknownBit (now (card .entry)) ⌝ }
+{
+    7 < byte_at(card, 0)
+}
+
+fn has_field_out_of_range(card: &[u8]) -> bool
+    ensures { λ r. ⌜ r ≡ fieldOutOfRange (now (card .entry)) ⌝ }
+{
+    if field_refused(bit_of(card, 1), number_at(card, 1)) {
+        return true;
+    }
+    field_refused(bit_of(card, 2), mastering_peak(card))
+}
+
+// Whether a field stands, as its bit says, and is out of range.
+fn field_refused(bit: u64, value: u64) -> bool
+    ensures { λ r. ⌜ r ≡ (eqb bit 1 && outOfRange value) ⌝ }
+{
+    if bit != 1 {
+        return false;
+    }
+    if value == 0 {
+        return true;
+    }
+    10000 < value
+}
+
+// The field of bit 1: MaxCLL precedes it where bit 0 stands.
+fn mastering_peak(card: &[u8]) -> u64
+    ensures { λ r. ⌜ r ≡ masteringPeak (now (card .entry)) ⌝ }
+{
+    number_at(card, 1 + 2 * bit_of(card, 1) as usize)
+}
+
+// The peak of a card that nothing refuses.
+fn peak_of_fields(card: &[u8]) -> u64
+    ensures { λ r. ⌜ r ≡ peak (now (card .entry)) ⌝ }
+{
+    let unconstrained = first_standing(bit_of(card, 4), 10000, 4000);
+    let mastered = first_standing(bit_of(card, 2), mastering_peak(card), unconstrained);
+    first_standing(bit_of(card, 1), number_at(card, 1), mastered)
+}
+
+// The value where its bit stands, else the next choice.
+fn first_standing(bit: u64, value: u64, next: u64) -> u64
+    ensures { λ r. ⌜ r ≡ cond (eqb bit 1) value next ⌝ }
+{
+    if bit == 1 {
+        return value;
+    }
+    next
 }

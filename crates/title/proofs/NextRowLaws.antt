@@ -1,27 +1,27 @@
 -- Laws of the next row, from its definitions and those of the row call: the bytes of a converted row are its pixels' codes, and its text theirs.
-use Prim.Native.Nat.{ℕ, zero, suc, _+_, _*_, _/_, _%_, _-_, _≤_, _<_}
-use mathlib.Core.Bool.{Bool, true, false, cond}
-use mathlib.Core.List.{List, [], _++_, append-nil}
-use mathlib.Core.Option.{none, some}
 use mathlib.Core.Path.{_≡_, refl, sym, ap, _∙_}
-use native.Mathlib.Decide.{decLt}
+use mathlib.Core.Bool.{Bool, true, false, cond}
+use mathlib.Core.List.{List, [], append-nil}
+use Prim.Native.Nat.{ℕ, _*_, _/_, _%_, _-_, _≤_, _<_}
 use native.Mathlib.Omega.{arith}
-use lib.Dec.{leb}
-use lib.ListN.{length, drop-of-length-le, length-append, length-drop, List·getD-append}
-use lib.Seq.{getD-append-add}
+use lib.Dec.{leb, ltb}
+use lib.ListN.{length, drop-of-length-le, length-append, length-drop}
 use borrow.Author.Tests.{eq-eqb, ne-eqb, lt-ltb, le-ltb}
-use Rattle.quantity.specs.Component.{Component, red, green, blue, Pixel}
+use Rattle.quantity.specs.declared.Source.{Source}
 use Rattle.pixel.specs.Conversion.{code}
-use Rattle.rows.specs.Row.{pixelAt, spanBytes}
 use Rattle.rows.specs.declared.RowAnswer.the-variants.{Converted, Refused}
+use Rattle.rows.specs.Row.{pixelAt, spanBytes}
+use Rattle.rows.specs.Answer.{firstRefused, lengthRefused, destinationRefused, spanRefused, spanAnswer}
 use Rattle.rows.proofs.RowLaws.{length-span, pixel-of-span}
-use Rattle.pq_hlg.specs.Row.{rowAnswer, destinationAfter, sourceOf}
+use Rattle.pq_hlg.specs.Pixel.{peakRefused, sampleRefused}
+use Rattle.pq_hlg.specs.Row.{rowAnswer, destinationAfter}
 use Rattle.pq_hlg.proofs.TestLaws.{row-accepted}
 use Rattle.listing.specs.Text.{lines, rowText, rowTextWithin, opened}
 use Rattle.listing.proofs.TextLaws.{lines-same}
-use Rattle.title.specs.declared.next_row.RowText.{RowText}
-use Rattle.title.specs.declared.next_row.RowText.the-variants.{Lines, End, Refused as Stop}
-use Rattle.title.specs.NextRow.{convertedText, wholeRowAnswer, nextRefusal, isListed, nextText, codesAfter, textLength, NextRow}
+use Rattle.title.specs.declared.next_row.NextRow.{NextRow}
+use Rattle.title.specs.declared.next_row.NextRow.the-variants.{Listed, End, Refused as Stop}
+use Rattle.title.specs.declared.next_row.Piece.{Piece}
+use Rattle.title.specs.NextRow.{convertedText, wholeRowAnswer, wholeRowBytes, afterCall, nextRow, pieceText, rowsLeft, NextPiece}
 
 -- the text of converted bytes, within a buffer
 pub converted-text : (peak : ℕ) (row : List ℕ) (n room : ℕ)
@@ -34,61 +34,81 @@ converted-text peak row n room =
     simp (eq-eqb (length bytes % 6) 0 (omega arith), pixels, lines-same (pixelAt bytes) (λ j. code peak (pixelAt row j)) n (pixel-of-span (code peak) row n))
 
 -- a whole row that is converted fills its destination
-pub whole-destination : (peak : ℕ) (row codes : List ℕ) → rowAnswer (sourceOf peak) row (length codes) 0 (length row / 6) ≡ Converted
-    → destinationAfter (sourceOf peak) row codes 0 (length row / 6) ≡ spanBytes (code peak) row 0 (length row / 6)
+pub whole-destination : (source : Source) (row codes : List ℕ) → rowAnswer source row (length codes) 0 (length row / 6) ≡ Converted
+    → destinationAfter source row codes 0 (length row / 6) ≡ wholeRowBytes source row
 unfolding destinationAfter
-whole-destination peak row codes h =
-    let k = row-accepted (sourceOf peak) row (length codes) 0 (length row / 6) h .1 in
+whole-destination source row codes h =
+    let k = row-accepted source row (length codes) 0 (length row / 6) h .1 in
     let n : length row / 6 - 0 ≡ length row / 6 = omega arith in
     simp (h, n, drop-of-length-le codes {i = 6 * (length row / 6)} (omega (arith, k .same, k .pixels)), append-nil)
 
--- each answer keeps the promise: the end, a row cut short, a refusal of the row call, and a row that is listed
-module _ (peak : ℕ) (row : List ℕ) (got : ℕ) (codes text : List ℕ) where
-  pub at-end : got ≡ 0 → NextRow peak row got codes text End codes text
-  unfolding nextRefusal isListed nextText codesAfter
-  at-end h =
-      let e = eq-eqb got 0 h in
-      record { number = simp e; bytes = simp e; of-codes = simp e; of-text = simp e }
+-- a row that is refused leaves its destination
+pub destination-left : (source : Source) (row codes : List ℕ) {number place : ℕ} → rowAnswer source row (length codes) 0 (length row / 6) ≡ Refused number place
+    → destinationAfter source row codes 0 (length row / 6) ≡ codes
+unfolding destinationAfter
+destination-left source row codes h = simp h
 
-  pub cut : (got ≡ 0 → ⊥) → got < length row → NextRow peak row got codes text (Stop 11) codes text
-  unfolding nextRefusal isListed nextText codesAfter
-  cut h l =
-      let e = ne-eqb got 0 h in
-      let f = lt-ltb got (length row) l in
-      record { number = simp (e, f); bytes = simp (e, f); of-codes = simp (e, f); of-text = simp (e, f) }
+-- which row it is, by the bytes that came for it
+module _ (source : Source) (width : ℕ) (row : List ℕ) (bytes : ℕ) where
+  pub at-end : length row ≡ 0 → nextRow source width row bytes ≡ End
+  unfolding nextRow
+  at-end h = simp (eq-eqb (length row) 0 h)
 
-  module _ (some-byte : got ≡ 0 → ⊥) (all : length row ≤ got) (codes′ : List ℕ) (fills : codes′ ≡ destinationAfter (sourceOf peak) row codes 0 (length row / 6)) where
-    pub row-refused : (number place : ℕ) → wholeRowAnswer peak row (length codes) ≡ Refused number place
-        → NextRow peak row got codes text (Stop number) codes′ text
-    unfolding nextRefusal isListed nextText codesAfter destinationAfter
-    row-refused number place h =
-        let e = ne-eqb got 0 some-byte in
-        let f = le-ltb got (length row) all in
-        record { number = simp (e, f, h); bytes = simp (e, f, h); of-codes = simp (e, f, h) (simp h at fills); of-text = simp (e, f, h) }
+  pub cut-short : (length row ≡ 0 → ⊥) → length row < 6 * width → nextRow source width row bytes ≡ Stop 11
+  unfolding nextRow
+  cut-short h l = simp (ne-eqb (length row) 0 h, lt-ltb (length row) (6 * width) l)
 
-    pub listed : (n : ℕ) (text′ : List ℕ) → wholeRowAnswer peak row (length codes) ≡ Converted
-        → n ≡ length (rowTextWithin codes′ (length text)) → text′ ≡ opened (rowTextWithin codes′ (length text)) text
-        → NextRow peak row got codes text (Lines n) codes′ text′
-    unfolding nextRefusal isListed nextText codesAfter convertedText
-    listed n text′ h k t =
-        let e = ne-eqb got 0 some-byte in
-        let f = le-ltb got (length row) all in
-        let same : codes′ ≡ spanBytes (code peak) row 0 (length row / 6) = fills ∙ whole-destination peak row codes h in
-        let words = ap (λ (l : List ℕ). rowTextWithin l (length text)) same ∙ converted-text peak row (length row / 6) (length text) in
-        record {
-          number = simp (e, f, h);
-          bytes = simp (e, f, h) (ap some (rw words at k));
-          of-codes = simp (e, f, h) same;
-          of-text = simp (e, f, h) (rw words at t);
-        }
+  pub whole : (length row ≡ 0 → ⊥) → 6 * width ≤ length row → nextRow source width row bytes ≡ afterCall (wholeRowAnswer source row bytes)
+  unfolding nextRow
+  whole h l = simp (ne-eqb (length row) 0 h, le-ltb (length row) (6 * width) l)
 
-lines-in : (b : Bool) (n m : ℕ) → some n ≡ cond b (some m) none → n ≡ m
-lines-in true n m h = cc
-lines-in false n m h = cc
+after-test : (refused : Bool) (place : ℕ) → afterCall (cond refused (Refused 9 place) Converted) ≡ cond refused (Stop 9) Listed
+after-test true place = refl
+after-test false place = refl
 
--- the lines of a row lie within the text buffer
-pub lines-fit : {peak : ℕ} {row : List ℕ} {got : ℕ} {codes text : List ℕ} {answer : RowText} {codes′ text′ : List ℕ} {n : ℕ} → NextRow peak row got codes text answer codes′ text′ → answer ≡ Lines n
-    → n ≤ length text′
-lines-fit {peak} {row} {got} {codes} {text} {answer} {codes′} {text′} {n} x e =
-    let same = lines-in (isListed peak row got (length codes)) n (length (nextText peak row got (length codes) (length text))) (sym (ap textLength e) ∙ x .bytes) in
+-- Of the row call's refusals a title's row only meets 9: peak and width are in their ranges, and the codes have the row's length.
+pub only-nine : (source : Source) (width : ℕ) (row : List ℕ) → 1 ≤ source .peak → source .peak ≤ 10000 → 1 ≤ width → width ≤ 8192 → length row ≡ 6 * width
+    → nextRow source width row (length row) ≡ cond (ltb (firstRefused sampleRefused row 0 (3 * width)) (3 * width)) (Stop 9) Listed
+unfolding rowAnswer peakRefused spanAnswer lengthRefused destinationRefused spanRefused
+only-nine source width row p q v w l =
+    let pixels : length row / 6 ≡ width = omega arith in
+    let some = ne-eqb (source .peak) 0 (omega arith) in
+    let most = le-ltb 10000 (source .peak) q in
+    let sixes = eq-eqb (length row % 6) 0 (omega arith) in
+    let short = le-ltb 49152 (length row) (omega arith) in
+    let same = eq-eqb (length row) (length row) refl in
+    let first = le-ltb width 0 (omega arith) in
+    let end = le-ltb width width (omega arith) in
+    let all : width - 0 ≡ width = omega arith in
+    let i = firstRefused sampleRefused row 0 (3 * width) in
+    whole source width row (length row) (omega arith) (omega arith)
+    ∙ simp (pixels, some, most, sixes, short, same, first, end, all) (after-test (ltb i (3 * width)) i)
+
+-- the piece of text that a converted row gives
+pub listed : (source : Source) (left : ℕ) (row codes text : List ℕ) {n m : ℕ} {codes′ text′ : List ℕ} → codes′ ≡ wholeRowBytes source row
+    → n ≡ length (rowTextWithin codes′ (length text)) → text′ ≡ opened (rowTextWithin codes′ (length text)) text → m ≡ left - 1
+    → NextPiece Listed source left row codes text (record { bytes = n; left = m }) codes′ text′
+unfolding convertedText
+listed source left row codes text {n} {m} {codes′} {text′} same k t l =
+    let words = ap (λ (bytes : List ℕ). rowTextWithin bytes (length text)) same ∙ converted-text (source .peak) row (length row / 6) (length text) in
+    let count = rw words at k in
+    record { answer = rw (count, l); of-codes = same; of-text = rw words at t }
+
+-- a piece lies within the text buffer
+pub piece-fits : {next : NextRow} {source : Source} {left : ℕ} {row codes text : List ℕ} {piece : Piece} {codes′ text′ : List ℕ}
+    → NextPiece next source left row codes text piece codes′ text′
+    → piece .bytes ≤ length text′
+piece-fits {next} {source} {left} {row} {codes} {text} {piece} x =
+    let count = ap (λ (p : Piece). p .bytes) (x .answer) in
     omega (arith, simp (length-append, length-drop) at (ap length (x .of-text)))
+
+-- rows come to an end: each piece leaves fewer
+pub fewer-left : {next : NextRow} {source : Source} {left : ℕ} {row codes text : List ℕ} {piece : Piece} {codes′ text′ : List ℕ}
+    → NextPiece next source left row codes text piece codes′ text′
+    → 0 < left → piece .left < left
+fewer-left {next} {source} {left} {row} {codes} {text} {piece} x h = go next (ap (λ (p : Piece). p .left) (x .answer))
+  where
+    go : (a : NextRow) → piece .left ≡ rowsLeft a left → piece .left < left
+    go Listed e = omega arith
+    go (Stop number) e = omega arith
+    go End e = omega arith

@@ -1,122 +1,150 @@
--- Laws of an opening, from its definitions and those of the card: what each refusal leaves of it, and how far it reaches.
+-- Laws of an opening, from its definitions and those of the card: what it asks for, how far it reaches, and what bytes that come after it change.
 use Prim.Native.Nat.{ℕ, _+_, _-_, _<_, _≤_}
-use mathlib.Core.Bool.{Bool, true, false, true≢false}
-use mathlib.Core.List.{List}
-use mathlib.Core.Option.{some}
+use mathlib.Core.Bool.{Bool, true, false, cond, true≢false}
+use mathlib.Core.List.{List, [], _++_}
 use mathlib.Core.Path.{_≡_, refl, sym, ap, _∙_}
+use native.Mathlib.Decide.{decLt}
 use native.Mathlib.Omega.{arith}
 use lib.Dec.{eqb, ltb}
-use lib.ListN.{length, length-drop}
-use borrow.Author.Tests.{ne-eqb, eqb-true, eqb-false, ltb-true, ltb-false}
-use Rattle.metadata.specs.Card.{cardBytes, unknownBit, cutShort, fieldOutOfRange, refusal, peak, peakGiven, refusalNumber, peakValue, cardEnd, following}
-use Rattle.metadata.specs.declared.PeakAnswer.{PeakAnswer}
-use Rattle.metadata.specs.declared.PeakAnswer.the-variants.{Peak, Refused}
-use Rattle.metadata.proofs.CardLaws.{all-there, given, refused}
+use lib.ListN.{length, drop, length-append, length-drop, drop-of-length-le}
+use lib.Seq.{drop-at}
+use borrow.Author.Tests.{eqb-false, ltb-false, le-ltb}
+use Rattle.quantity.specs.declared.Source.{Source}
+use Rattle.metadata.specs.Card.{cardBytes, cardAnswer, following, cardWants}
+use Rattle.metadata.specs.declared.SourceAnswer.{SourceAnswer}
+use Rattle.metadata.specs.declared.SourceAnswer.the-variants as card
+use Rattle.metadata.proofs.CardLaws.{Outcome, empty, unknown, cut, outside, taken, outcome, wants-none, after-card, at-most-five}
+use Rattle.metadata.proofs.CardLaws.{same-number, settled, follows, wants-on, none-over}
 use Rattle.title.specs.declared.opening.Opening.{Opening}
-use Rattle.title.specs.declared.opening.Opening.the-variants.{Rows}
-use Rattle.title.specs.Opening.{width, widthRefused, widthAnswer, openingRefusal, declares, openingNumber, peakDeclared, widthDeclared, bytesAsked}
+use Rattle.title.specs.declared.opening.Opening.the-variants.{Rows, Refused}
+use Rattle.title.specs.Opening.{width, widthRefused, widthAnswer, answerAfter, openingAnswer, rowsOf, askedAfter, bytesAsked}
 
--- what is told by a refusal, and by a peak
-pub refusal-told : (card : List ℕ) {r : PeakAnswer} {number : ℕ} → (refusalNumber r ≡ refusal card) × (peakValue r ≡ peakGiven card) → r ≡ Refused number
-    → (number ≡ refusal card) × (0 < refusal card)
-refusal-told card {r} {number} h e = (sym (ap refusalNumber e) ∙ h .0, refused card number (sym (ap peakValue e) ∙ h .1))
-
-pub peak-told : (card : List ℕ) {r : PeakAnswer} {value : ℕ} → (refusalNumber r ≡ refusal card) × (peakValue r ≡ peakGiven card) → r ≡ Peak value
-    → (refusal card ≡ 0) × (value ≡ peak card)
-peak-told card {r} {value} h e = given card value (sym (ap peakValue e) ∙ h .1)
-
-cut-in : (card : List ℕ) (a b c d : Bool) → eqb (length card) 0 ≡ a → unknownBit card ≡ b → cutShort card ≡ c → fieldOutOfRange card ≡ d → refusal card ≡ 3 → (a ≡ false) × (c ≡ true)
-unfolding refusal
-cut-in card true b c d p q r s h = absurd (omega (arith, simp p at h))
-cut-in card false true c d p q r s h = absurd (omega (arith, simp (p, q) at h))
-cut-in card false false true d p q r s h = (refl, refl)
-cut-in card false false false true p q r s h = absurd (omega (arith, simp (p, q, r, s) at h))
-cut-in card false false false false p q r s h = absurd (omega (arith, simp (p, q, r, s) at h))
-
-empty-in : (card : List ℕ) (a b c d : Bool) → eqb (length card) 0 ≡ a → unknownBit card ≡ b → cutShort card ≡ c → fieldOutOfRange card ≡ d → refusal card ≡ 1 → a ≡ true
-unfolding refusal
-empty-in card true b c d p q r s h = refl
-empty-in card false true c d p q r s h = absurd (omega (arith, simp (p, q) at h))
-empty-in card false false true d p q r s h = absurd (omega (arith, simp (p, q, r) at h))
-empty-in card false false false true p q r s h = absurd (omega (arith, simp (p, q, r, s) at h))
-empty-in card false false false false p q r s h = absurd (omega (arith, simp (p, q, r, s) at h))
-
--- refusal 1 comes of no byte at all
-empty : (card : List ℕ) → refusal card ≡ 1 → length card ≡ 0
-empty card h = eqb-true (length card) 0 (empty-in card (eqb (length card) 0) (unknownBit card) (cutShort card) (fieldOutOfRange card) refl refl refl refl h)
-
--- refusal 3 comes of a card that has its bit map and lacks bytes
-pub cut-short : (card : List ℕ) → refusal card ≡ 3 → (0 < length card) × (length card < cardBytes card)
-cut-short card h =
-    let e = cut-in card (eqb (length card) 0) (unknownBit card) (cutShort card) (fieldOutOfRange card) refl refl refl refl h in
-    let some-byte = eqb-false (length card) 0 (e .0) in
-    (omega arith, ltb-true (length card) (cardBytes card) (e .1))
-
--- what is asked for, by the card's refusal
-pub asked-first : (opening : List ℕ) → refusal opening ≡ 1 → bytesAsked opening ≡ 1
+-- what an opening asks for and answers, by its card's answer
+pub asked-by : (opening : List ℕ) {answer : SourceAnswer} → cardAnswer opening ≡ answer → bytesAsked opening ≡ askedAfter answer opening
 unfolding bytesAsked
-asked-first opening h = simp h
+asked-by opening h = rw h
 
-pub asked-fields : (opening : List ℕ) → refusal opening ≡ 3 → bytesAsked opening ≡ cardBytes opening - length opening
-unfolding bytesAsked
-asked-fields opening h = simp h
-
-pub asked-width : (opening : List ℕ) → refusal opening ≡ 0 → bytesAsked opening ≡ 2 - length (following opening)
-unfolding bytesAsked
-asked-width opening h = simp h
-
-pub asked-none : (opening : List ℕ) → (refusal opening ≡ 0 → ⊥) → (refusal opening ≡ 1 → ⊥) → (refusal opening ≡ 3 → ⊥) → bytesAsked opening ≡ 0
-unfolding bytesAsked
-asked-none opening h g k = simp (ne-eqb (refusal opening) 0 h, ne-eqb (refusal opening) 1 g, ne-eqb (refusal opening) 3 k)
-
--- the answer where the card is refused
-pub card-refused : (opening : List ℕ) (number : ℕ) → number ≡ refusal opening → 0 < refusal opening
-    → (number ≡ openingRefusal opening) × (eqb (openingRefusal opening) 0 ≡ false)
-unfolding openingRefusal
-card-refused opening number e h = simp (ne-eqb (refusal opening) 0 (omega arith)) (e, refl)
-
-width-in : (opening : List ℕ) (p : ℕ) (r : Opening) (b : Bool) → widthRefused (following opening) ≡ b → refusal opening ≡ 0 → p ≡ peak opening → r ≡ widthAnswer p (following opening)
-    → (openingNumber r ≡ openingRefusal opening) × (peakDeclared r ≡ declares opening (peak opening)) × (widthDeclared r ≡ declares opening (width (following opening)))
-unfolding widthAnswer openingRefusal
-width-in opening p r true t h e f = let g = simp t at f in simp (h, t, g) (refl, refl, refl)
-width-in opening p r false t h e f = let g = simp (t, e) at f in simp (h, t, g) (refl, refl, refl)
-
--- the answer where it is not
-pub width-told : (opening : List ℕ) (p : ℕ) (r : Opening) → refusal opening ≡ 0 → p ≡ peak opening → r ≡ widthAnswer p (following opening)
-    → (openingNumber r ≡ openingRefusal opening) × (peakDeclared r ≡ declares opening (peak opening)) × (widthDeclared r ≡ declares opening (width (following opening)))
-width-told opening p r h e f = width-in opening p r (widthRefused (following opening)) refl h e f
-
-asked-in : (o : List ℕ) (a b c : Bool) → eqb (refusal o) 0 ≡ a → eqb (refusal o) 1 ≡ b → eqb (refusal o) 3 ≡ c → length o ≤ 7 → length o + bytesAsked o ≤ 7
-unfolding following cardEnd
-asked-in o true b c p q r h =
-    let e = eqb-true (refusal o) 0 p in
-    let l = simp (p, length-drop) at (asked-width o e) in
-    omega (arith, all-there o e)
-asked-in o false true c p q r h = let e = eqb-true (refusal o) 1 q in omega (arith, asked-first o e, empty o e)
-asked-in o false false true p q r h = let e = eqb-true (refusal o) 3 r in omega (arith, asked-fields o e, cut-short o e .1)
-asked-in o false false false p q r h =
-    omega (arith, asked-none o (eqb-false (refusal o) 0 p) (eqb-false (refusal o) 1 q) (eqb-false (refusal o) 3 r))
+pub answer-by : (opening : List ℕ) {answer : SourceAnswer} → cardAnswer opening ≡ answer → openingAnswer opening ≡ answerAfter answer (following opening)
+unfolding openingAnswer
+answer-by opening h = rw h
 
 -- an opening takes at most seven bytes
 pub asked-within : (opening : List ℕ) → length opening ≤ 7 → length opening + bytesAsked opening ≤ 7
-asked-within o h = asked-in o (eqb (refusal o) 0) (eqb (refusal o) 1) (eqb (refusal o) 3) refl refl refl h
+asked-within opening h = go (outcome opening)
+  where
+    go : Outcome opening → length opening + bytesAsked opening ≤ 7
+    go (empty l e w) = omega (arith, asked-by opening e)
+    go (unknown l u e w) = omega (arith, asked-by opening e)
+    go (cut l u s e w) = omega (arith, asked-by opening e, at-most-five opening)
+    go (outside u l f e w) = omega (arith, asked-by opening e)
+    go (taken u l f e w) =
+        let rest = simp length-drop at (ap length (after-card opening e)) in
+        omega (arith, asked-by opening e, at-most-five opening)
 
-narrow-in : (bytes : List ℕ) (a b c : Bool) → ltb (length bytes) 2 ≡ a → eqb (width bytes) 0 ≡ b → ltb 8192 (width bytes) ≡ c → widthRefused bytes ≡ false → c ≡ false
+narrow-in : (bytes : List ℕ) (a b c : Bool) → ltb (length bytes) 2 ≡ a → eqb (width bytes) 0 ≡ b → ltb 8192 (width bytes) ≡ c → widthRefused bytes ≡ false
+    → (a ≡ false) × (b ≡ false) × (c ≡ false)
 unfolding widthRefused
 narrow-in bytes true b c p q r h = absurd (true≢false (simp (p, q, r) at h))
 narrow-in bytes false true c p q r h = absurd (true≢false (simp (p, q, r) at h))
 narrow-in bytes false false true p q r h = absurd (true≢false (simp (p, q, r) at h))
-narrow-in bytes false false false p q r h = refl
+narrow-in bytes false false false p q r h = (refl, refl, refl)
 
-declared-in : (o : List ℕ) (w : ℕ) (a b : Bool) → eqb (refusal o) 0 ≡ a → widthRefused (following o) ≡ b → some w ≡ declares o (width (following o)) → w ≤ 8192
-unfolding openingRefusal
-declared-in o w true false p q h =
-    let e : w ≡ width (following o) = let g = simp (p, q) at h in cc in
-    let n = narrow-in (following o) (ltb (length (following o)) 2) (eqb (width (following o)) 0) (ltb 8192 (width (following o))) refl refl refl q in
-    omega (arith, ltb-false 8192 (width (following o)) n)
-declared-in o w true true p q h = let g = simp (p, q) at h in let z : _≡_ {A = ℕ} 0 1 = cc in absurd (omega arith)
-declared-in o w false b p q h = let g = simp (p, p) at h in let z : _≡_ {A = ℕ} 0 1 = cc in absurd (omega arith)
+-- a title that has rows: what its card declares, and a width from 1 to 8,192 pixels
+pub has-rows : (title : List ℕ) {source : Source} {w : ℕ} → openingAnswer title ≡ Rows source w
+    → (cardAnswer title ≡ card.Declared source) × (1 ≤ w) × (w ≤ 8192)
+unfolding widthAnswer
+has-rows title {source} {w} h = at-card (cardAnswer title) refl
+  where
+    at-width : (s : Source) (b : Bool) → cardAnswer title ≡ card.Declared s → widthRefused (following title) ≡ b
+        → (cardAnswer title ≡ card.Declared source) × (1 ≤ w) × (w ≤ 8192)
+    at-width s true e q = let g = simp q at (sym h ∙ answer-by title e) in let z : _≡_ {A = ℕ} 0 1 = cc in absurd (omega arith)
+    at-width s false e q =
+        let g = simp q at (sym h ∙ answer-by title e) in
+        let same : w ≡ width (following title) = cc in
+        let bytes = following title in
+        let t = narrow-in bytes (ltb (length bytes) 2) (eqb (width bytes) 0) (ltb 8192 (width bytes)) refl refl refl q in
+        let some = eqb-false (width bytes) 0 (t .1) in
+        let most = ltb-false 8192 (width bytes) (t .2) in
+        (cc, omega arith, omega arith)
 
--- a declared width is at most 8,192 pixels
-pub declared-narrow : (opening : List ℕ) {r : Opening} {p w : ℕ} → widthDeclared r ≡ declares opening (width (following opening)) → r ≡ Rows p w → w ≤ 8192
-declared-narrow o {r} {p} {w} h e = declared-in o w (eqb (refusal o) 0) (widthRefused (following o)) refl refl (sym (ap widthDeclared e) ∙ h)
+    at-card : (a : SourceAnswer) → cardAnswer title ≡ a → (cardAnswer title ≡ card.Declared source) × (1 ≤ w) × (w ≤ 8192)
+    at-card (card.Declared s) e = at-width s (widthRefused (following title)) e refl
+    at-card (card.Refused n) e = let g = sym h ∙ answer-by title e in let z : _≡_ {A = ℕ} 0 1 = cc in absurd (omega arith)
+
+width-settled : (source : Source) (bytes more : List ℕ) → 2 ≤ length bytes → widthAnswer source (bytes ++ more) ≡ widthAnswer source bytes
+unfolding widthAnswer widthRefused
+width-settled source bytes more h =
+    let longer = length-append bytes more in
+    rw (same-number bytes more 0 h, le-ltb (length (bytes ++ more)) 2 (omega arith), le-ltb (length bytes) 2 h)
+
+-- no more than two bytes follow the card
+abbrev pub Tight : List ℕ → Type 0
+Tight opening = (source : Source) → cardAnswer opening ≡ card.Declared source → length (following opening) ≤ 2
+
+-- Bytes that come after those of an opening.
+module _ (opening more : List ℕ) where
+  longer : length (opening ++ more) ≡ length opening + length more
+  longer = length-append opening more
+
+  longer-rest : {source : Source} → cardAnswer opening ≡ card.Declared source
+      → length (following (opening ++ more)) ≡ length (following opening) + length more
+  longer-rest e = ap length (follows opening more e) ∙ length-append (following opening) more
+
+  -- An opening that asks for nothing answers the same whatever comes after it.
+  pub opening-settled : bytesAsked opening ≡ 0 → openingAnswer (opening ++ more) ≡ openingAnswer opening
+  opening-settled h = go (cardAnswer opening) refl
+    where
+      go : (a : SourceAnswer) → cardAnswer opening ≡ a → openingAnswer (opening ++ more) ≡ openingAnswer opening
+      go (card.Declared source) e =
+          let joined = answer-by (opening ++ more) (settled opening more (wants-none opening e) ∙ e) in
+          let width = width-settled source (following opening) more (omega (arith, asked-by opening e)) in
+          joined ∙ ap (widthAnswer source) (follows opening more e) ∙ width ∙ sym (answer-by opening e)
+      go (card.Refused number) e =
+          answer-by (opening ++ more) (settled opening more (sym (asked-by opening e) ∙ h) ∙ e) ∙ sym (answer-by opening e)
+
+  -- Each byte that is asked for is needed: until all are there the opening asks for those that are missing, so none beyond it is read.
+  pub asks-on : length more < bytesAsked opening → bytesAsked (opening ++ more) ≡ bytesAsked opening - length more
+  asks-on h = go (cardAnswer opening) refl
+    where
+      still : (a : SourceAnswer) → cardAnswer (opening ++ more) ≡ a → 0 < cardWants (opening ++ more)
+          → bytesAsked (opening ++ more) ≡ cardWants (opening ++ more)
+      still (card.Declared source) e w = absurd (omega (arith, wants-none (opening ++ more) e))
+      still (card.Refused number) e w = asked-by (opening ++ more) e
+
+      go : (a : SourceAnswer) → cardAnswer opening ≡ a → bytesAsked (opening ++ more) ≡ bytesAsked opening - length more
+      go (card.Declared source) e =
+          omega (arith, asked-by (opening ++ more) (settled opening more (wants-none opening e) ∙ e), asked-by opening e, longer-rest e)
+      go (card.Refused number) e =
+          let wanted = asked-by opening e in
+          let now-wanted = wants-on opening more (omega arith) in
+          omega (arith, still (cardAnswer (opening ++ more)) refl (omega arith))
+
+  -- No more bytes than are asked for leave at most two after the card.
+  pub tight-on : Tight opening → length more ≤ bytesAsked opening → Tight (opening ++ more)
+  tight-on tight h source d = go (cardAnswer opening) refl
+    where
+      at-card : (number : ℕ) → cardAnswer opening ≡ card.Refused number → Dec (0 < cardWants opening) → length (following (opening ++ more)) ≤ 2
+      at-card number e (yes z) =
+          let wanted = asked-by opening e in
+          let whole = none-over opening more z (omega arith) in
+          rw (after-card (opening ++ more) d, drop-of-length-le (opening ++ more) whole) (omega arith)
+      at-card number e (no z) =
+          let g = sym d ∙ settled opening more (omega arith) ∙ e in
+          let o : _≡_ {A = ℕ} 0 1 = cc in
+          absurd (omega arith)
+
+      go : (a : SourceAnswer) → cardAnswer opening ≡ a → length (following (opening ++ more)) ≤ 2
+      go (card.Declared s) e = omega (arith, tight _ e, asked-by opening e, longer-rest e)
+      go (card.Refused number) e = at-card number e (decLt 0 (cardWants opening))
+
+  -- What comes after a whole opening are the rows.
+  pub rows-after : Tight opening → bytesAsked opening ≡ 0 → {source : Source} → cardAnswer opening ≡ card.Declared source
+      → rowsOf (opening ++ more) ≡ more
+  unfolding rowsOf
+  rows-after tight h e =
+      rw (follows opening more e) (drop-at (following opening) more 2 (omega (arith, tight _ e, asked-by opening e)))
+
+-- A title that ends within its opening has no rows.
+pub no-rows : (opening : List ℕ) → Tight opening → {source : Source} → cardAnswer opening ≡ card.Declared source → rowsOf opening ≡ []
+unfolding rowsOf
+no-rows opening tight e = drop-of-length-le (following opening) (tight _ e)

@@ -1,78 +1,65 @@
 -- A title's next row: scope (document 01), "Cards, rows, program", one line for each pixel; refusals 11 and then 9 of "What stops a call".
--- A row has its bytes, of which so many were read; `bytes` is the length of the buffer for its codes, `room` that for its text.
-use Prim.Native.Nat.{ℕ, _*_, _/_}
-use mathlib.Core.Bool.{Bool, true, false, cond, _&&_}
+-- A row is the bytes that came for it, a width its pixels; `bytes` is the length of the buffer for its codes, `room` that for its text.
+use Prim.Native.Nat.{ℕ, _*_, _/_, _-_}
+use mathlib.Core.Bool.{cond}
 use mathlib.Core.List.{List, []}
-use mathlib.Core.Option.{Option, none, some}
 use mathlib.Core.Path.{_≡_}
 use lib.ListN.{length}
 use lib.Dec.{ltb, leb, eqb}
+use Rattle.quantity.specs.declared.Source.{Source}
 use Rattle.pixel.specs.Conversion.{code}
-use Rattle.rows.specs.Row.{pixelAt, spanBytes}
 use Rattle.rows.specs.declared.RowAnswer.{RowAnswer}
 use Rattle.rows.specs.declared.RowAnswer.the-variants as row-call
-use Rattle.pq_hlg.specs.Row.{rowAnswer, sourceOf}
-use Rattle.listing.specs.Text.{lines, opened}
-use Rattle.title.specs.declared.next_row.RowText.{RowText}
-use Rattle.title.specs.declared.next_row.RowText.the-variants.{Lines, Refused, End}
+use Rattle.rows.specs.Row.{pixelAt, spanBytes}
+use Rattle.pq_hlg.specs.Row.{rowAnswer}
+use Rattle.listing.specs.Text.{lines, refusalLineWithin, opened}
+use Rattle.title.specs.declared.next_row.NextRow.{NextRow}
+use Rattle.title.specs.declared.next_row.NextRow.the-variants.{Listed, Refused, End}
+use Rattle.title.specs.declared.next_row.Piece.{Piece}
 
 -- scope, program: a line for each pixel of a row, of its HLG codes
-unfoldable pub convertedText : ℕ → List ℕ → List ℕ
-convertedText peak row = lines (λ j. code peak (pixelAt row j)) (length row / 6)
+unfoldable pub convertedText : Source → List ℕ → List ℕ
+convertedText source row = lines (λ j. code (source .peak) (pixelAt row j)) (length row / 6)
 
--- whether a row call converts, and the number of its refusal
-abbrev pub isConverted : RowAnswer → Bool
-isConverted row-call.Converted = true
-isConverted (row-call.Refused number place) = false
+-- what a call for the whole row answers, and the bytes that it gives
+abbrev pub wholeRowAnswer : Source → List ℕ → ℕ → RowAnswer
+wholeRowAnswer source row bytes = rowAnswer source row bytes 0 (length row / 6)
 
-abbrev pub refusalNumber : RowAnswer → ℕ
-refusalNumber row-call.Converted = 0
-refusalNumber (row-call.Refused number place) = number
+abbrev pub wholeRowBytes : Source → List ℕ → List ℕ
+wholeRowBytes source row = spanBytes (code (source .peak)) row 0 (length row / 6)
 
--- what a call for the whole row answers
-abbrev pub wholeRowAnswer : ℕ → List ℕ → ℕ → RowAnswer
-wholeRowAnswer peak row bytes = rowAnswer (sourceOf peak) row bytes 0 (length row / 6)
+abbrev pub afterCall : RowAnswer → NextRow
+afterCall row-call.Converted = Listed
+afterCall (row-call.Refused number place) = Refused number
 
--- scope, What stops a call: the refusal of the next row, 0 where it meets none. No byte means that the title has ended; fewer than the row's mean
--- refusal 11; then come those of the row call, of which a title can only meet 9.
-unfoldable pub nextRefusal : ℕ → List ℕ → ℕ → ℕ → ℕ
-nextRefusal peak row got bytes =
-    cond (eqb got 0) 0
-    (cond (ltb got (length row)) 11
-    (refusalNumber (wholeRowAnswer peak row bytes)))
-
--- whether there is a next row, whole and converted
-unfoldable pub isListed : ℕ → List ℕ → ℕ → ℕ → Bool
-isListed peak row got bytes =
-    cond (eqb got 0) false
-    (cond (ltb got (length row)) false
-    (isConverted (wholeRowAnswer peak row bytes)))
-
--- the text of the next row; none where it is not listed, or where the text buffer has fewer than 18 bytes for each pixel
-unfoldable pub nextText : ℕ → List ℕ → ℕ → ℕ → ℕ → List ℕ
-nextText peak row got bytes room =
-    cond (isListed peak row got bytes && leb (18 * (length row / 6)) room) (convertedText peak row) []
+-- scope, What stops a call: no byte means that the title has ended, fewer than the row's mean refusal 11; then the row call decides, of whose
+-- refusals a title can only meet 9 (`only-nine`)
+unfoldable pub nextRow : Source → ℕ → List ℕ → ℕ → NextRow
+nextRow source width row bytes =
+    cond (eqb (length row) 0) End
+    (cond (ltb (length row) (6 * width)) (Refused 11)
+    (afterCall (wholeRowAnswer source row bytes)))
 
 -- the codes' buffer afterwards
-unfoldable pub codesAfter : ℕ → List ℕ → ℕ → List ℕ → List ℕ
-codesAfter peak row got codes =
-    cond (isListed peak row got (length codes)) (spanBytes (code peak) row 0 (length row / 6)) codes
+abbrev pub codesAfter : NextRow → Source → List ℕ → List ℕ → List ℕ
+codesAfter Listed source row codes = wholeRowBytes source row
+codesAfter (Refused number) source row codes = codes
+codesAfter End source row codes = codes
 
--- scope, What stops a call: the number in an answer, 0 where nothing was refused
-abbrev pub textRefusal : RowText → ℕ
-textRefusal (Lines n) = 0
-textRefusal (Refused number) = number
-textRefusal End = 0
+-- what the next row has printed; nothing where the text buffer has fewer than 18 bytes for each pixel, or than a refusal takes
+abbrev pub pieceText : NextRow → Source → List ℕ → ℕ → List ℕ
+pieceText Listed source row room = cond (leb (18 * (length row / 6)) room) (convertedText source row) []
+pieceText (Refused number) source row room = refusalLineWithin number room
+pieceText End source row room = []
 
--- the length of the text in an answer
-abbrev pub textLength : RowText → Option ℕ
-textLength (Lines n) = some n
-textLength (Refused number) = none
-textLength End = none
+-- how many rows are still to be read where `left` were: one fewer after a row that was listed, else none
+abbrev pub rowsLeft : NextRow → ℕ → ℕ
+rowsLeft Listed left = left - 1
+rowsLeft (Refused number) left = 0
+rowsLeft End left = 0
 
--- what is promised of an answer about the next row, and of both buffers: `codes` and `text` before, those with a prime after
-pub record NextRow (peak : ℕ) (row : List ℕ) (got : ℕ) (codes text : List ℕ) (answer : RowText) (codes′ text′ : List ℕ) : Type 0 where
-  pub number : textRefusal answer ≡ nextRefusal peak row got (length codes)
-  pub bytes : textLength answer ≡ cond (isListed peak row got (length codes)) (some (length (nextText peak row got (length codes) (length text)))) none
-  pub of-codes : codes′ ≡ codesAfter peak row got codes
-  pub of-text : text′ ≡ opened (nextText peak row got (length codes) (length text)) text
+-- what is promised of the piece of a title's text that its next row gives, and of both buffers: `codes` and `text` before, those with a prime after
+pub record NextPiece (next : NextRow) (source : Source) (left : ℕ) (row codes text : List ℕ) (piece : Piece) (codes′ text′ : List ℕ) : Type 0 where
+  pub answer : piece ≡ record { bytes = length (pieceText next source row (length text)); left = rowsLeft next left }
+  pub of-codes : codes′ ≡ codesAfter next source row codes
+  pub of-text : text′ ≡ opened (pieceText next source row (length text)) text

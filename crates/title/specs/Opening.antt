@@ -1,54 +1,46 @@
--- How a title opens: scope (document 01), "Cards, rows, program", a card and then a two-byte width; refusals 1 to 4 and 10 of "What stops a call".
--- The bytes are those read so far; a width is in pixels, a peak in whole cd/m2.
-use Prim.Native.Nat.{ℕ, _+_, _*_, _-_}
+-- How a title opens: scope (document 01), "Cards, rows, program", and refusals 1 to 4 and 10 of "What stops a call".
+-- A list of bytes is a title's from its first on; a width is in pixels.
+use Prim.Native.Nat.{ℕ, _-_}
 use mathlib.Core.Bool.{Bool, cond, _||_}
 use mathlib.Core.List.{List}
-use mathlib.Core.Option.{Option, none, some}
-use lib.ListN.{length, getD}
+use lib.ListN.{length, drop}
 use lib.Dec.{ltb, eqb}
-use Rattle.metadata.specs.Card.{cardBytes, refusal, peak, following}
+use Rattle.quantity.specs.declared.Source.{Source}
+use Rattle.big_endian.specs.BigEndian.{numberAt}
+use Rattle.metadata.specs.Card.{cardAnswer, following, cardWants}
+use Rattle.metadata.specs.declared.SourceAnswer.{SourceAnswer}
+use Rattle.metadata.specs.declared.SourceAnswer.the-variants as card
 use Rattle.title.specs.declared.opening.Opening.{Opening}
 use Rattle.title.specs.declared.opening.Opening.the-variants.{Rows, Refused}
 
--- scope, program: the width that bytes begin with, high byte first
-unfoldable pub width : List ℕ → ℕ
-width bytes = getD bytes 0 0 * 256 + getD bytes 1 0
+-- scope, program: the width, in the first two bytes
+abbrev pub width : List ℕ → ℕ
+width bytes = numberAt bytes 0
 
--- scope, refusal 10: the width is missing, 0 or above 8,192
+-- scope, refusal 10
 unfoldable pub widthRefused : List ℕ → Bool
 widthRefused bytes = ltb (length bytes) 2 || eqb (width bytes) 0 || ltb 8192 (width bytes)
 
--- scope, What stops a call: the first refusal that an opening meets, 1 to 4 and then 10; 0 where it meets none
-unfoldable pub openingRefusal : List ℕ → ℕ
-openingRefusal opening =
-    cond (eqb (refusal opening) 0) (cond (widthRefused (following opening)) 10 0) (refusal opening)
+-- what the bytes after an accepted card answer
+unfoldable pub widthAnswer : Source → List ℕ → Opening
+widthAnswer source bytes = cond (widthRefused bytes) (Refused 10) (Rows source (width bytes))
 
--- what the bytes after an accepted card answer: the width beside the card's peak, or refusal 10
-unfoldable pub widthAnswer : ℕ → List ℕ → Opening
-widthAnswer peak bytes = cond (widthRefused bytes) (Refused 10) (Rows peak (width bytes))
+abbrev pub answerAfter : SourceAnswer → List ℕ → Opening
+answerAfter (card.Declared source) bytes = widthAnswer source bytes
+answerAfter (card.Refused number) bytes = Refused number
 
--- a value that an opening declares; a refused one declares none
-abbrev pub declares : List ℕ → ℕ → Option ℕ
-declares opening value = cond (eqb (openingRefusal opening) 0) (some value) none
+-- scope, What stops a call: what a title declares of its rows, or its first refusal, the card's and then the width's
+unfoldable pub openingAnswer : List ℕ → Opening
+openingAnswer title = answerAfter (cardAnswer title) (following title)
 
--- scope, What stops a call: the number in an answer, 0 where nothing was refused
-abbrev pub openingNumber : Opening → ℕ
-openingNumber (Rows peak width) = 0
-openingNumber (Refused number) = number
+-- scope, program: what comes after card and width
+unfoldable pub rowsOf : List ℕ → List ℕ
+rowsOf title = drop 2 (following title)
 
-abbrev pub peakDeclared : Opening → Option ℕ
-peakDeclared (Rows peak width) = some peak
-peakDeclared (Refused number) = none
+abbrev pub askedAfter : SourceAnswer → List ℕ → ℕ
+askedAfter (card.Declared source) opening = 2 - length (following opening)
+askedAfter (card.Refused number) opening = cardWants opening
 
-abbrev pub widthDeclared : Opening → Option ℕ
-widthDeclared (Rows peak width) = some width
-widthDeclared (Refused number) = none
-
--- scope, Cards: how many bytes the opening asks for next. The bit map comes first; it says how many bytes of fields follow; then come the two of
--- the width. Nothing is asked for after a refusal that no more bytes can mend.
+-- how many bytes an opening asks for next, of which these came: first those of the card, then those of the width; none where it is refused
 unfoldable pub bytesAsked : List ℕ → ℕ
-bytesAsked opening =
-    cond (eqb (refusal opening) 0) (2 - length (following opening))
-    (cond (eqb (refusal opening) 1) 1
-    (cond (eqb (refusal opening) 3) (cardBytes opening - length opening)
-    0))
+bytesAsked opening = askedAfter (cardAnswer opening) opening

@@ -1,9 +1,8 @@
 // A title on standard input, its text on standard output. No contract can say which bytes a system call reads or writes: what they are to be is
-// promised by the functions on slices that are called here.
+// promised by the functions on slices that are called here, and that these calls in this order give a title's text is `program-text`.
 ghost use mathlib.Core.Path.{_≡_};
-ghost use Prim.Native.Nat.{_*_, _≤_};
+ghost use Prim.Native.Nat.{_≤_};
 ghost use lib.ListN.{length};
-use crate::next_row::RowText;
 use crate::next_row::list_next_row;
 use crate::opening::Opening;
 use crate::opening::bytes_asked;
@@ -12,23 +11,90 @@ use libc::STDERR_FILENO;
 use libc::STDIN_FILENO;
 use libc::STDOUT_FILENO;
 use listing::list_refusal;
+use quantity::Source;
 
-// One read; 0 at the end of the input. A read that fails counts as the end and is told, so that half a title does not pass for a whole one.
-fn read_some(buffer: &mut [u8]) -> usize
-    ensures { λ r. ⌜ r ≤ length (now (buffer .entry)) ⌝ }
-{
-    let got = libc::read(STDIN_FILENO, buffer);
-    if got < 0 {
-        io::write_all(
-            STDERR_FILENO,
-            b"convert: the input could not be read to its end\n",
-        );
-        return 0;
+// Converts the title on standard input, of which at most so many rows are read, and prints its text on standard output.
+pub fn convert_title(limit: u64) {
+    let mut bytes = [0u8; 7];
+    let got = read_opening_bytes(&mut bytes);
+    let opening = read_opening(&bytes[..got]);
+    match opening {
+        Opening::Rows(source, width) => print_title(limit, source, width),
+        Opening::Refused(number) => print_refusal(number),
     }
-    io::count(got, buffer)
 }
 
-// Fills the buffer, or as much of it as the input has; how many bytes came.
+// Reads the bytes of an opening, as many as they themselves ask for; how many came.
+fn read_opening_bytes(opening: &mut [u8]) -> usize
+    requires { ⌜ length (now opening) ≡ 7 ⌝ }
+    ensures { λ r. ⌜ r ≤ 7 ⌝ }
+{
+    let mut got = 0;
+    loop {
+        let asked = bytes_asked(&opening[..got]);
+        if asked == 0 {
+            return got;
+        }
+        let end = got + asked;
+        let came = read_input(&mut opening[got..end]);
+        got += came;
+        if came < asked {
+            return got;
+        }
+    }
+}
+
+// One row of the widest title is all that is held at a time, in bytes, codes and text.
+fn print_title(limit: u64, source: Source, width: usize)
+    requires { ⌜ width ≤ 8192 ⌝ }
+{
+    let mut row = [0u8; 49152];
+    let mut codes = [0u8; 49152];
+    let mut text = [0u8; 147456];
+    let bytes = 6 * width;
+    print_rows(
+        limit,
+        source,
+        width,
+        &mut row[..bytes],
+        &mut codes[..bytes],
+        &mut text,
+    );
+}
+
+// Reads row after row and prints the text of each at once.
+fn print_rows(
+    limit: u64,
+    source: Source,
+    width: usize,
+    row: &mut [u8],
+    codes: &mut [u8],
+    text: &mut [u8],
+) {
+    let mut left = limit;
+    while 0 < left {
+        let got = read_input(row);
+        let piece = list_next_row(source, width, left, &row[..got], codes, text);
+        let n = piece.bytes;
+        if !write_output(&text[..n]) {
+            return;
+        }
+        left = piece.left;
+    }
+}
+
+fn print_refusal(number: u64) {
+    let mut text = [0u8; 29];
+    let n = list_refusal(number, &mut text);
+    write_output(&text[..n]);
+}
+
+// Standard output: whether all bytes were written.
+fn write_output(bytes: &[u8]) -> bool {
+    io::write_all(STDOUT_FILENO, bytes)
+}
+
+// Standard input: fills the buffer, or as much of it as the input has; how many bytes came.
 fn read_input(buffer: &mut [u8]) -> usize
     ensures { λ r. ⌜ r ≤ length (now (buffer .entry)) ⌝ }
 {
@@ -43,88 +109,17 @@ fn read_input(buffer: &mut [u8]) -> usize
     done
 }
 
-// Reads the bytes of an opening, as many as they themselves ask for; how many came.
-fn read_opening_bytes(opening: &mut [u8]) -> usize
-    requires { ⌜ length (now opening) ≡ 7 ⌝ }
-    ensures { λ r. ⌜ r ≤ 7 ⌝ }
+// One read; 0 at the end of the input. A read that fails counts as the end and is told, so that half a title does not pass for a whole one.
+fn read_some(buffer: &mut [u8]) -> usize
+    ensures { λ r. ⌜ r ≤ length (now (buffer .entry)) ⌝ }
 {
-    let mut got = 0;
-    while got < 7 {
-        let asked = bytes_asked(&opening[..got]);
-        if asked == 0 {
-            return got;
-        }
-        let end = got + asked;
-        let came = read_input(&mut opening[got..end]);
-        got += came;
-        if came < asked {
-            return got;
-        }
+    let got = libc::read(STDIN_FILENO, buffer);
+    if got < 0 {
+        io::write_all(
+            STDERR_FILENO,
+            b"convert: the input could not be read to its end\n",
+        );
+        return 0;
     }
-    got
-}
-
-fn print_refusal(number: u64) {
-    let mut text = [0u8; 29];
-    let n = list_refusal(number, &mut text);
-    io::write_all(STDOUT_FILENO, &text[..n]);
-}
-
-// Reads a row and prints its text at once; whether the title goes on.
-fn print_next_row(peak: u64, row: &mut [u8], codes: &mut [u8], text: &mut [u8]) -> bool {
-    let got = read_input(row);
-    let answer = list_next_row(peak, row, got, codes, text);
-    match answer {
-        RowText::Lines(n) => io::write_all(STDOUT_FILENO, &text[..n]),
-        RowText::Refused(number) => {
-            print_refusal(number);
-            false
-        }
-        RowText::End => false,
-    }
-}
-
-// Rows to the end of the title, or to the last that the limit allows; how many were printed. What follows that one is not read.
-fn print_rows(limit: u64, peak: u64, row: &mut [u8], codes: &mut [u8], text: &mut [u8]) -> u64
-    ensures { λ r. ⌜ r ≤ limit ⌝ }
-{
-    let mut printed = 0;
-    while printed < limit && print_next_row(peak, row, codes, text) {
-        printed += 1;
-    }
-    printed
-}
-
-// One row of the widest title is all that is held at a time, in bytes, codes and text.
-fn print_title(limit: u64, peak: u64, width: usize) -> u64
-    requires { ⌜ width ≤ 8192 ⌝ }
-    ensures { λ r. ⌜ r ≤ limit ⌝ }
-{
-    let mut row = [0u8; 49152];
-    let mut codes = [0u8; 49152];
-    let mut text = [0u8; 147456];
-    let bytes = 6 * width;
-    print_rows(
-        limit,
-        peak,
-        &mut row[..bytes],
-        &mut codes[..bytes],
-        &mut text,
-    )
-}
-
-// Converts the title on standard input, of which at most so many rows are read, and prints it on standard output; how many rows were printed.
-pub fn convert_title(limit: u64) -> u64
-    ensures { λ r. ⌜ r ≤ limit ⌝ }
-{
-    let mut bytes = [0u8; 7];
-    let got = read_opening_bytes(&mut bytes);
-    let opening = read_opening(&bytes[..got]);
-    match opening {
-        Opening::Rows(peak, width) => print_title(limit, peak, width),
-        Opening::Refused(number) => {
-            print_refusal(number);
-            0
-        }
-    }
+    io::count(got, buffer)
 }

@@ -1,37 +1,26 @@
--- Where the card ends, from the refusal and the length of the fields.
+-- Where the card ends, from its answer.
+use mathlib.Core.Path.{sym, ap, _∙_}
 use native.Mathlib.Omega.{arith}
 use denote.Ref.{now}
-use borrow.Author.Tests.{eq-eqb, ne-eqb}
 use borrow.Author.Needs.{needs}
-use Rattle.metadata.specs.Card.{refusal, cardEnd}
-use Rattle.metadata.proofs.CardLaws.{all-there}
+use Rattle.metadata.specs.Card.{endAfter}
+use Rattle.metadata.specs.declared.SourceAnswer.{SourceAnswer}
+use Rattle.metadata.proofs.CardLaws.{accepted}
 use Rattle.metadata.proofs.end_of_metadata.Statement.{statement}
 use Rattle.metadata.proofs.end_of_metadata.Tie as tie
 
-refusal-of-metadata-requires : tie.Need-refusal-of-metadata-requires
-refusal-of-metadata-requires c κs = search needs
-
 returns : tie.Need-returns
-unfolding cardEnd
 returns c =
-    let card = now (c .before .before .before .args .card) in
-    simp (ne-eqb (refusal card) 0 (omega arith))
-
-fields-len-requires : tie.Need-fields-len-requires
-fields-len-requires c κs =
-    let card = now (c .before .before .before .args .card) in
-    omega (arith, all-there card (omega arith))
-
-add-result : tie.Need-add-result
-add-result c = search needs
+    let card = now (c .before .before .before .before .before .args .card) in
+    let answer = sym (c .before .before .before .source-of-metadata .ensures) ∙ c .before .enum-told .given .1 in
+    (simp answer (c .length-of-card .ensures), omega (arith, accepted card answer .0))
 
 returns-2 : tie.Need-returns-2
-unfolding cardEnd
 returns-2 c =
-    let card = now (c .before .before .before .before .args .card) in
-    simp (eq-eqb (refusal card) 0 (omega arith)) (omega arith)
+    let answer = sym (c .before .before .source-of-metadata .ensures) ∙ c .enum-told2 .given .1 in
+    (simp answer, omega arith)
 
 pub end-of-metadata-spec : {M : Type 1} → statement M
 end-of-metadata-spec =
     tie.close
-    (tie.spec refusal-of-metadata-requires returns fields-len-requires add-result returns-2)
+    (tie.spec (λ c κs. search needs) (λ c. search needs) (λ c κs. search needs) (λ c. search needs) returns returns-2)

@@ -10,31 +10,19 @@ use Rattle.title.proofs.streams.print_refusal.Tie as tie
 fits : (c : tie.After-list-refusal) → c .list-refusal .result ≤ length (c .list-refusal .last .1 .0)
 fits c = omega (arith, c .list-refusal .ensures .0, simp (length-append, length-drop) at (ap length (c .list-refusal .ensures .1)))
 
-slice-aggregate-list-refusal : tie.Need-slice-aggregate-list-refusal
-slice-aggregate-list-refusal c = search needs
-
-list-refusal-requires : tie.Need-list-refusal-requires
-list-refusal-requires c κs = search needs
-
 array-share-prefix-text : tie.Need-array-share-prefix-text
 array-share-prefix-text c = fits (c .before)
 
-slice-aggregate-write-all : tie.Need-slice-aggregate-write-all
-slice-aggregate-write-all c = let h = fits (c .before .before) in simp length-take (omega arith)
-
-write-all-requires : tie.Need-write-all-requires
-write-all-requires c κs = search needs
-
-returns : tie.Need-returns
-returns c = search needs
+slice-aggregate-write-output : tie.Need-slice-aggregate-write-output
+slice-aggregate-write-output c = let h = fits (c .before .before) in simp length-take (omega arith)
 
 pub print-refusal-spec : {M : Type 1} → statement M
 print-refusal-spec =
     tie.close
     (tie.spec
-    slice-aggregate-list-refusal
-    list-refusal-requires
+    (λ c. search needs)
+    (λ c κs. search needs)
     array-share-prefix-text
-    slice-aggregate-write-all
-    write-all-requires
-    returns)
+    slice-aggregate-write-output
+    (λ c κs. search needs)
+    (λ c. search needs))

@@ -1,56 +1,31 @@
--- `title::streams::print_rows` meets its contract. The measure is the rows that the limit leaves.
-use mathlib.Core.Path.{_≡_}
-use Prim.Native.Nat.{_-_, _≤_}
+-- Each piece lies within the text buffer and leaves fewer rows. The measure is the rows that are still to be read.
+use mathlib.Core.Path.{_≡_, sym}
+use Prim.Native.Nat.{_≤_}
 use lib.ListN.{length}
+use lib.Seq.{length-take-le}
 use borrow.Author.Needs.{needs}
+use Rattle.title.proofs.NextRowLaws.{piece-fits, fewer-left}
 use Rattle.title.proofs.streams.print_rows.Statement.{statement}
 use Rattle.title.proofs.streams.print_rows.Tie as tie
 
 abbrev Inv-loop : tie.InvT-loop
-Inv-loop limit peak row₀ codes₀ text₀ printed₀ row codes text printed =
-    (printed ≤ limit) × (length row ≡ length row₀) × (length codes ≡ length codes₀) × (length text ≡ length text₀)
+Inv-loop limit source width row₀ codes₀ text₀ left₀ row codes text left =
+    (length row ≡ length row₀) × (length codes ≡ length codes₀) × (length text ≡ length text₀)
 
 abbrev μ-loop : tie.MeasureT-loop
-μ-loop limit peak row₀ codes₀ text₀ printed₀ row codes text printed = limit - printed
+μ-loop limit source width row₀ codes₀ text₀ left₀ row codes text left = left
 
-loop-holds : tie.Need-loop-holds Inv-loop μ-loop
-loop-holds c = search needs
+slice-aggregate-list-next-row : tie.Need-slice-aggregate-list-next-row Inv-loop μ-loop
+slice-aggregate-list-next-row c = sym (length-take-le _ _ (search needs))
 
-print-next-row-requires : tie.Need-print-next-row-requires Inv-loop μ-loop
-print-next-row-requires c κs = search needs
+slice-reshare-prefix-write-output : tie.Need-slice-reshare-prefix-write-output Inv-loop μ-loop
+slice-reshare-prefix-write-output c = piece-fits (c .before .before .before .before .list-next-row .ensures)
 
-add-printed : tie.Need-add-printed Inv-loop μ-loop
-add-printed c = search needs
+slice-aggregate-write-output : tie.Need-slice-aggregate-write-output Inv-loop μ-loop
+slice-aggregate-write-output c = sym (length-take-le _ _ (piece-fits (c .before .before .before .before .before .list-next-row .ensures)))
 
 loop-less : tie.Need-loop-less Inv-loop μ-loop
-loop-less c = search needs
-
-loop-again : tie.Need-loop-again Inv-loop μ-loop
-loop-again c = search needs
-
-same-length : tie.Need-same-length Inv-loop μ-loop
-same-length c = search needs
-
-same-length-2 : tie.Need-same-length-2 Inv-loop μ-loop
-same-length-2 c = search needs
-
-same-length-3 : tie.Need-same-length-3 Inv-loop μ-loop
-same-length-3 c = search needs
-
-returns : tie.Need-returns Inv-loop μ-loop
-returns c = search needs
-
-same-length-4 : tie.Need-same-length-4 Inv-loop μ-loop
-same-length-4 c = search needs
-
-same-length-5 : tie.Need-same-length-5 Inv-loop μ-loop
-same-length-5 c = search needs
-
-same-length-6 : tie.Need-same-length-6 Inv-loop μ-loop
-same-length-6 c = search needs
-
-returns-2 : tie.Need-returns-2 Inv-loop μ-loop
-returns-2 c = search needs
+loop-less c = fewer-left (c .before .before .before .before .before .before .before .list-next-row .ensures) (search needs)
 
 pub print-rows-spec : {M : Type 1} → statement M
 print-rows-spec =
@@ -58,16 +33,21 @@ print-rows-spec =
     (tie.spec
     Inv-loop
     μ-loop
-    loop-holds
-    print-next-row-requires
-    add-printed
+    (λ c. search needs)
+    (λ c κs. search needs)
+    (λ c. search needs)
+    slice-aggregate-list-next-row
+    (λ c κs. search needs)
+    slice-reshare-prefix-write-output
+    slice-aggregate-write-output
+    (λ c κs. search needs)
+    (λ c. search needs)
+    (λ c. search needs)
+    (λ c. search needs)
+    (λ c. search needs)
     loop-less
-    loop-again
-    same-length
-    same-length-2
-    same-length-3
-    returns
-    same-length-4
-    same-length-5
-    same-length-6
-    returns-2)
+    (λ c. search needs)
+    (λ c. search needs)
+    (λ c. search needs)
+    (λ c. search needs)
+    (λ c. search needs))

@@ -1,4 +1,4 @@
--- `title::streams::read_input` meets its contract. The measure is what is left of the buffer.
+-- Each read adds to what came. The measure is what is left of the buffer.
 use mathlib.Core.Path.{_≡_, refl, _∙_}
 use Prim.Native.Nat.{_-_, _≤_}
 use native.Mathlib.Omega.{arith}
@@ -17,25 +17,11 @@ abbrev μ-loop : tie.MeasureT-loop
 loop-holds : tie.Need-loop-holds Inv-loop μ-loop
 loop-holds c = (omega arith, refl)
 
-sub-read-some : tie.Need-sub-read-some Inv-loop μ-loop
-sub-read-some c = search needs
-
-part-read-some-start : tie.Need-part-read-some-start Inv-loop μ-loop
-part-read-some-start c = search needs
-
-part-read-some-end : tie.Need-part-read-some-end Inv-loop μ-loop
-part-read-some-end c = search needs
-
-read-some-requires : tie.Need-read-some-requires Inv-loop μ-loop
-read-some-requires c κs = search needs
-
 same-length : tie.Need-same-length Inv-loop μ-loop
 same-length c =
     let loop = c .before .before .before .before .before .before .loop in
-    same-len-mid (loop .done) (length (loop .buffer) - loop .done) (loop .buffer) (c .before .before .before .read-some .last .0) (c .before .before .before .read-some .kept .0) ∙ loop .inv .1
-
-returns : tie.Need-returns Inv-loop μ-loop
-returns c = search needs
+    let read = c .before .before .before .read-some in
+    same-len-mid (loop .done) (length (loop .buffer) - loop .done) (loop .buffer) (read .last .0) (read .kept .0) ∙ loop .inv .1
 
 add-done : tie.Need-add-done Inv-loop μ-loop
 add-done c = omega (arith, simp (length-take, length-drop) at (c .before .before .before .read-some .ensures))
@@ -47,14 +33,10 @@ loop-again : tie.Need-loop-again Inv-loop μ-loop
 loop-again c =
     let loop = c .before .before .before .before .before .before .loop in
     let more = simp (length-take, length-drop) at (c .before .before .before .read-some .ensures) in
-    let same = same-len-mid (loop .done) (length (loop .buffer) - loop .done) (loop .buffer) (c .before .before .before .read-some .last .0) (c .before .before .before .read-some .kept .0) ∙ loop .inv .1 in
+    let read = c .before .before .before .read-some in
+    let kept = same-len-mid (loop .done) (length (loop .buffer) - loop .done) (loop .buffer) (read .last .0) (read .kept .0) in
+    let same = kept ∙ loop .inv .1 in
     (omega (arith, same), same)
-
-same-length-2 : tie.Need-same-length-2 Inv-loop μ-loop
-same-length-2 c = search needs
-
-returns-2 : tie.Need-returns-2 Inv-loop μ-loop
-returns-2 c = search needs
 
 pub read-input-spec : {M : Type 1} → statement M
 read-input-spec =
@@ -63,14 +45,14 @@ read-input-spec =
     Inv-loop
     μ-loop
     loop-holds
-    sub-read-some
-    part-read-some-start
-    part-read-some-end
-    read-some-requires
+    (λ c. search needs)
+    (λ c. search needs)
+    (λ c. search needs)
+    (λ c κs. search needs)
     same-length
-    returns
+    (λ c. search needs)
     add-done
     loop-less
     loop-again
-    same-length-2
-    returns-2)
+    (λ c. search needs)
+    (λ c. search needs))

@@ -1,4 +1,4 @@
--- `title::streams::read_opening_bytes` meets its contract: an opening asks for no more than seven bytes. The measure is what is left of them.
+-- An opening asks for no more than seven bytes, and no more come than it asks for. The measure is what is left of the seven.
 use mathlib.Core.Path.{_≡_, refl, _∙_}
 use Prim.Native.Nat.{_+_, _-_, _≤_}
 use native.Mathlib.Omega.{arith}
@@ -16,57 +16,34 @@ abbrev μ-loop : tie.MeasureT-loop
 μ-loop opening₀ got₀ opening got = 7 - got
 
 -- what is asked for has room
-within : (c : tie.After-bytes-asked Inv-loop μ-loop) → c .before .before .before .loop .got + c .bytes-asked .result ≤ 7
+within : (c : tie.After-bytes-asked Inv-loop μ-loop) → c .before .before .loop .got + c .bytes-asked .result ≤ 7
 within c =
-    let loop = c .before .before .before .loop in
+    let loop = c .before .before .loop in
     let read = take (loop .got) (loop .opening) in
     let l : length read ≡ loop .got = simp length-take (omega arith) in
     omega (arith, asked-within read (omega arith), c .bytes-asked .ensures)
 
--- no more comes than was asked for
 came : (c : tie.After-read-input Inv-loop μ-loop) → c .read-input .result ≤ c .before .before .before .bytes-asked .result
 came c = omega (arith, simp (length-take, length-drop) at (c .read-input .ensures))
-
-loop-holds : tie.Need-loop-holds Inv-loop μ-loop
-loop-holds c = (omega arith, refl)
-
-slice-reshare-prefix-bytes-asked : tie.Need-slice-reshare-prefix-bytes-asked Inv-loop μ-loop
-slice-reshare-prefix-bytes-asked c = search needs
 
 slice-aggregate-bytes-asked : tie.Need-slice-aggregate-bytes-asked Inv-loop μ-loop
 slice-aggregate-bytes-asked c = simp length-take (omega arith)
 
-bytes-asked-requires : tie.Need-bytes-asked-requires Inv-loop μ-loop
-bytes-asked-requires c κs = search needs
-
-same-length : tie.Need-same-length Inv-loop μ-loop
-same-length c = search needs
-
-returns : tie.Need-returns Inv-loop μ-loop
-returns c = search needs
-
 add-end : tie.Need-add-end Inv-loop μ-loop
 add-end c = let w = within (c .before) in search needs
 
-sub-read-input : tie.Need-sub-read-input Inv-loop μ-loop
-sub-read-input c = search needs
-
-part-read-input-start : tie.Need-part-read-input-start Inv-loop μ-loop
-part-read-input-start c = search needs
-
 part-read-input-end : tie.Need-part-read-input-end Inv-loop μ-loop
 part-read-input-end c = let w = within (c .before) in search needs
-
-read-input-requires : tie.Need-read-input-requires Inv-loop μ-loop
-read-input-requires c κs = search needs
 
 add-got : tie.Need-add-got Inv-loop μ-loop
 add-got c = let w = within (c .before .before .before .before .before) in let l = came (c .before .before) in search needs
 
 same-length-2 : tie.Need-same-length-2 Inv-loop μ-loop
 same-length-2 c =
-    let loop = c .before .before .before .before .before .before .before .before .before .loop in
-    same-len-mid (loop .got) (loop .got + c .before .before .before .before .before .before .bytes-asked .result - loop .got) (loop .opening) (c .before .before .before .read-input .last .0) (c .before .before .before .read-input .kept .0) ∙ loop .inv .1
+    let loop = c .before .before .before .before .before .before .before .before .loop in
+    let read = c .before .before .before .read-input in
+    let asked = c .before .before .before .before .before .before .bytes-asked .result in
+    same-len-mid (loop .got) (loop .got + asked - loop .got) (loop .opening) (read .last .0) (read .kept .0) ∙ loop .inv .1
 
 returns-2 : tie.Need-returns-2 Inv-loop μ-loop
 returns-2 c = omega (arith, within (c .before .before .before .before .before .before), came (c .before .before .before))
@@ -76,14 +53,11 @@ loop-less c = omega (arith, within (c .before .before .before .before .before .b
 
 loop-again : tie.Need-loop-again Inv-loop μ-loop
 loop-again c =
-    let loop = c .before .before .before .before .before .before .before .before .before .loop in
-    (omega (arith, within (c .before .before .before .before .before .before), came (c .before .before .before)), same-len-mid (loop .got) (loop .got + c .before .before .before .before .before .before .bytes-asked .result - loop .got) (loop .opening) (c .before .before .before .read-input .last .0) (c .before .before .before .read-input .kept .0) ∙ loop .inv .1)
-
-same-length-3 : tie.Need-same-length-3 Inv-loop μ-loop
-same-length-3 c = search needs
-
-returns-3 : tie.Need-returns-3 Inv-loop μ-loop
-returns-3 c = search needs
+    let loop = c .before .before .before .before .before .before .before .before .loop in
+    let read = c .before .before .before .read-input in
+    let asked = c .before .before .before .before .before .before .bytes-asked .result in
+    let same = same-len-mid (loop .got) (loop .got + asked - loop .got) (loop .opening) (read .last .0) (read .kept .0) in
+    (omega (arith, within (c .before .before .before .before .before .before), came (c .before .before .before)), same ∙ loop .inv .1)
 
 pub read-opening-bytes-spec : {M : Type 1} → statement M
 read-opening-bytes-spec =
@@ -91,21 +65,19 @@ read-opening-bytes-spec =
     (tie.spec
     Inv-loop
     μ-loop
-    loop-holds
-    slice-reshare-prefix-bytes-asked
+    (λ c. (omega arith, refl))
+    (λ c. search needs)
     slice-aggregate-bytes-asked
-    bytes-asked-requires
-    same-length
-    returns
+    (λ c κs. search needs)
+    (λ c. search needs)
+    (λ c. search needs)
     add-end
-    sub-read-input
-    part-read-input-start
+    (λ c. search needs)
+    (λ c. search needs)
     part-read-input-end
-    read-input-requires
+    (λ c κs. search needs)
     add-got
     same-length-2
     returns-2
     loop-less
-    loop-again
-    same-length-3
-    returns-3)
+    loop-again)

@@ -1,0 +1,51 @@
+-- The card's answer, test by test in their order.
+use mathlib.Core.Path.{sym, _∙_}
+use native.Mathlib.Omega.{arith}
+use lib.ListN.{length}
+use denote.Ref.{now}
+use borrow.Author.Tests.{eq-eqb, ne-eqb, lt-ltb, le-ltb}
+use borrow.Author.Needs.{needs}
+use Rattle.metadata.specs.Card.{cardBytes, cardAnswer}
+use Rattle.metadata.proofs.source_of_metadata.Statement.{statement}
+use Rattle.metadata.proofs.source_of_metadata.Tie as tie
+
+returns : tie.Need-returns
+unfolding cardAnswer
+returns c = simp (eq-eqb _ _ (c .if1 .taken))
+
+returns-2 : tie.Need-returns-2
+unfolding cardAnswer
+returns-2 c =
+    simp (ne-eqb _ _ (c .before .before .if1 .left), sym (c .before .has-unknown-bit .ensures) ∙ c .if2 .taken)
+
+returns-3 : tie.Need-returns-3
+unfolding cardAnswer
+returns-3 c =
+    let card = now (c .before .before .before .before .before .before .args .card) in
+    let some = ne-eqb _ _ (c .before .before .before .before .if1 .left) in
+    let known = sym (c .before .before .before .has-unknown-bit .ensures) ∙ c .before .before .if2 .left in
+    simp (some, known, lt-ltb (length card) (cardBytes card) (omega arith))
+
+returns-4 : tie.Need-returns-4
+unfolding cardAnswer
+returns-4 c =
+    let card = now (c .before .before .before .before .before .before .before .before .args .card) in
+    let some = ne-eqb _ _ (c .before .before .before .before .before .before .if1 .left) in
+    let known = sym (c .before .before .before .before .before .has-unknown-bit .ensures) ∙ c .before .before .before .before .if2 .left in
+    let whole = le-ltb (length card) (cardBytes card) (omega arith) in
+    simp (some, known, whole, sym (c .before .has-field-out-of-range .ensures) ∙ c .if4 .taken)
+
+returns-5 : tie.Need-returns-5
+unfolding cardAnswer
+returns-5 c =
+    let card = now (c .before .before .before .before .before .before .before .before .before .args .card) in
+    let some = ne-eqb _ _ (c .before .before .before .before .before .before .before .if1 .left) in
+    let known = sym (c .before .before .before .before .before .before .has-unknown-bit .ensures) ∙ c .before .before .before .before .before .if2 .left in
+    let whole = le-ltb (length card) (cardBytes card) (omega arith) in
+    let in-range = sym (c .before .before .has-field-out-of-range .ensures) ∙ c .before .if4 .left in
+    simp (some, known, whole, in-range, c .peak-of-fields .ensures)
+
+pub source-of-metadata-spec : {M : Type 1} → statement M
+source-of-metadata-spec =
+    tie.close
+    (tie.spec returns (λ c κs. search needs) returns-2 (λ c κs. search needs) returns-3 (λ c κs. search needs) returns-4 (λ c κs. search needs) returns-5)
