@@ -182,12 +182,12 @@ module _ {G : Given} {x : Pixel} {m : ℕ} (I : Indexed G x m) (peak : ℕ) (mos
       within = record { lower = omega (arith, is); upper = omega (arith, is); bent = omega (arith, is); seen = omega (arith, is, lit-light) }
 
   pub left : (peak ≤ 1000) ⊎ (2 * m + kneeHalves + positionOf (peak * units) ≤ 3 * thousandAt) → Enclosure 1 1 G peak m
-  left c = go (decLe peak 1000) c
+  left (inl h) = up-to-thousand h
+  left (inr g) = go (decLe peak 1000)
     where
-      go : Dec (peak ≤ 1000) → (peak ≤ 1000) ⊎ (2 * m + kneeHalves + positionOf (peak * units) ≤ 3 * thousandAt) → Enclosure 1 1 G peak m
-      go (yes h) d = up-to-thousand h
-      go (no h) (inl g) = absurd (h g)
-      go (no h) (inr g) = below-knee (omega arith) g
+      go : Dec (peak ≤ 1000) → Enclosure 1 1 G peak m
+      go (yes h) = up-to-thousand h
+      go (no h) = below-knee (omega arith) g
 
   -- from there on the curve's light, by entries of the table so many positions and a cell away; s is the bent position
   pub on-curve : 1000 < peak → 3 * thousandAt < 2 * m + kneeHalves + positionOf (peak * units) → Enclosure ratioUnder ratioOver G peak m

@@ -42,34 +42,19 @@ pub record Around {peak : ℕ} (e : Ends peak) (t w : ℕ) : Type 0 where
   pub H-high : e .H high ≡ w + 2
 
 -- such ends in positions, from the four values
-abbrev pub pair : ℕ → ℕ → Side → ℕ
-pair a b low = a
-pair a b high = b
-
 module _ (peak t w : ℕ) (far : t + 98 ≤ w)
     (J-low : Value low (whole thousand) (positionSignal t)) (J-high : Value high (whole thousand) (positionSignal (t + 1)))
     (H-low : Value low (whole (peak * units)) (positionSignal (w - 1))) (H-high : Value high (whole (peak * units)) (positionSignal (w + 2))) where
-  pub J-values : (s : Side) → Value s (whole thousand) (positionSignal (pair t (t + 1) s))
-  J-values low = J-low
-  J-values high = J-high
-
-  pub H-values : (s : Side) → Value s (whole (peak * units)) (positionSignal (pair (w - 1) (w + 2) s))
-  H-values low = H-low
-  H-values high = H-high
-
-  pub ends-apart : t + 1 < w - 1
-  ends-apart = omega arith
-
   abbrev pub endsAround : Ends peak
   endsAround =
       record {
         q = 897024;
         pos = positionSignal 0 .pos;
-        J = pair t (t + 1);
-        H = pair (w - 1) (w + 2);
-        J-value = J-values;
-        H-value = H-values;
-        apart = ends-apart;
+        J = elim [ low ↦ t | high ↦ t + 1 ];
+        H = elim [ low ↦ w - 1 | high ↦ w + 2 ];
+        J-value = elim [ low ↦ J-low | high ↦ J-high ];
+        H-value = elim [ low ↦ H-low | high ↦ H-high ];
+        apart = omega arith;
       }
 
   pub are-around : Around endsAround t w
