@@ -97,7 +97,8 @@ module _ (peak : ℕ) (more : 1000 < peak) (most : peak ≤ 10000) where
     pub by-low : (G : Given) (x : ℕ) (l : Fraction) → m ≤ x → G .X low (positionSignal x)
         → Light low (positionSignal (bentAt m - positionsOff)) l → BentLight G low peak l
     by-low G x l k a c =
-        bent-by G low x (bentAt m - positionsOff) l a (bent-low ends thousandAt w stand far near m x (bentAt m - positionsOff) bends k (omega (arith, range))) c
+        bent-by G low x (bentAt m - positionsOff) l a (bent-low ends thousandAt w stand far near m x (bentAt m - positionsOff) bends k
+        (omega (arith, range))) c
 
     pub by-high : (G : Given) (x : ℕ) (l : Fraction) → x ≤ m + 1 → G .X high (positionSignal x)
         → Light high (positionSignal (bentAt m + positionsOff)) l → BentLight G high peak l

@@ -97,7 +97,8 @@ module _ {peak : ℕ} (e : Ends peak) (t w : ℕ) (around : Around e t w) (far :
       rest = omega (arith, around)
 
       at-ends : 27 * (w - t + 2) ^ 2 * (t + 1) ≤ 4 * (e .H low - min x (e .H high)) ^ 3 + 27 * (w - t + 2) ^ 2 * v
-      at-ends = spline-high (w - min m w) (w - t) (t - curve t w m) (e .H low - min x (e .H high)) (curve t w m) v t (omega arith) p rest (omega (arith, top)) l
+      at-ends = spline-high (w - min m w) (w - t) (t - curve t w m) (e .H low - min x (e .H high)) (curve t w m) v t (omega arith) p rest
+          (omega (arith, top)) l
 
       curved : Spline high e (min x (e .H high)) v
       curved =

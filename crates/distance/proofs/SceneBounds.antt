@@ -20,10 +20,12 @@ pub scene-bounds : (s : Side) (e n d : ℕ) (dp : 0 < d) (r : Pixel) (z : ℕ) (
 scene-bounds s e n d dp r z zp h = go s h
   where
     left : 2 ^ 135 * 625 * 16777216000 * (e ^ 6 * K * weighted r * d ^ 6) ≡ e ^ 6 * (weighted r * 1 * 1) * (d * thousand) ^ 6
-    left = subst (λ y. 2 ^ 135 * 625 * 16777216000 * (e ^ 6 * K * weighted r * d ^ 6) ≡ e ^ 6 * y * (d * thousand) ^ 6) (omega arith) (scene-left (e ^ 6) (weighted r) d)
+    left = subst (λ y. 2 ^ 135 * 625 * 16777216000 * (e ^ 6 * K * weighted r * d ^ 6) ≡ e ^ 6 * y * (d * thousand) ^ 6) (omega arith)
+        (scene-left (e ^ 6) (weighted r) d)
 
     right : 2 ^ 135 * 625 * 16777216000 * (C * n ^ 6 * z) ≡ (n * 1) ^ 6 * ((2 ^ 40) ^ 6 * (z * thousand * 10000))
-    right = subst (λ y. 2 ^ 135 * 625 * 16777216000 * (C * n ^ 6 * z) ≡ y ^ 6 * ((2 ^ 40) ^ 6 * (z * thousand * 10000))) (sym (mul-one n)) (scene-right (n ^ 6) z)
+    right = subst (λ y. 2 ^ 135 * 625 * 16777216000 * (C * n ^ 6 * z) ≡ y ^ 6 * ((2 ^ 40) ^ 6 * (z * thousand * 10000))) (sym (mul-one n))
+        (scene-right (n ^ 6) z)
 
     go : (s : Side) → Scaled s e n d (weighted r) z → Bounds s (scene e ↑ 6 · luminance r z zp) (relative (over n d dp) ↑ 6)
     go low h = subst₂ _≤_ left right (mul-le-mul-left (2 ^ 135 * 625 * 16777216000) h)

@@ -7,7 +7,7 @@ use Rattle.laws.specs.Fraction.{Fraction, _≼_}
 use Rattle.laws.specs.Side.{high}
 use Rattle.laws.proofs.FractionLaws.{≼-refl, ≼-trans}
 use Rattle.quantity.specs.Component.{Pixel, brightest}
-use Rattle.position.proofs.LightLaws.{brightest-at}
+use Rattle.quantity.proofs.ComponentLaws.{brightest-at}
 use Rattle.exact.specs.ExactValue.{Light, signal, ofCodes}
 use Rattle.exact.proofs.LightLaws.{light-ordered, light-above-zero}
 use Rattle.exact.proofs.BentLaws.{Sound}

@@ -2,12 +2,13 @@
 use mathlib.Core.Path.{_≡_, _∙_, subst₂}
 use mathlib.Core.Logic.{inl, inr}
 use Prim.Native.Nat.{ℕ, _+_, _-_, _*_, _^_, _<_}
-use native.Mathlib.Nat.{mul-comm, mul-sub, mul-pos, mul-le-mul-right, mul-lt-mul-of-pos-right}
+use native.Mathlib.Nat.{mul-pos, mul-le-mul-right, mul-lt-mul-of-pos-right}
 use native.Mathlib.Omega.{arith}
 use Rattle.laws.specs.Fraction.{Fraction, over, whole}
 use Rattle.laws.specs.Side.{Side, low, high, At}
 use Rattle.laws.proofs.SideLaws.{at-refl, at-mul}
 use Rattle.laws.proofs.PowerLaws.{powers}
+use Rattle.laws.proofs.DivisionLaws.{sub-mul}
 use Rattle.quantity.specs.Units.{units, thousand}
 use Rattle.pq.proofs.PqLaws.{at-most-signal, at-least-signal}
 use Rattle.exact.specs.ExactValue.{Value, Ends, X-to-H, J-to-H, Spline, BentSignal}
@@ -34,10 +35,9 @@ module _ {peak : ℕ} (e : Ends peak) (k : ℕ) (pos : 0 < k) where
       }
 
 -- ---- the bent signal
-difference : (m n k : ℕ) → (m - n) * k ≡ m * k - n * k
-difference m n k = mul-comm (m - n) k ∙ mul-sub k m n ∙ omega arith
 
-spline-scales : (s : Side) (u b v J k u′ b′ : ℕ) → u * k ≡ u′ → b * k ≡ b′ → At s (4 * u ^ 3 + 27 * b ^ 2 * v) (27 * b ^ 2 * J) → At s (4 * u′ ^ 3 + 27 * b′ ^ 2 * (v * k)) (27 * b′ ^ 2 * (J * k))
+spline-scales : (s : Side) (u b v J k u′ b′ : ℕ) → u * k ≡ u′ → b * k ≡ b′ → At s (4 * u ^ 3 + 27 * b ^ 2 * v) (27 * b ^ 2 * J)
+    → At s (4 * u′ ^ 3 + 27 * b′ ^ 2 * (v * k)) (27 * b′ ^ 2 * (J * k))
 spline-scales s u b v J k u′ b′ eu eb h =
     subst₂ (λ x y. At s (4 * x ^ 3 + 27 * y ^ 2 * (v * k)) (27 * y ^ 2 * (J * k))) eu eb
     (subst₂ (λ x y. At s x y) left right (at-mul s _ _ (k * k * k) (k * k * k) h (at-refl s (k * k * k))))
@@ -51,7 +51,7 @@ spline-scales s u b v J k u′ b′ eu eb h =
 module _ {peak : ℕ} (s : Side) (e : Ends peak) (k : ℕ) (pos : 0 < k) (X v : ℕ) where
   finer-spline : Spline s e X v → Spline s (finer e k pos) (X * k) (v * k)
   finer-spline h =
-      spline-scales s (X-to-H s e X) (J-to-H s e) v (e .J s) k (X-to-H s (finer e k pos) (X * k)) (J-to-H s (finer e k pos)) (rw difference) (rw difference) h
+      spline-scales s (X-to-H s e X) (J-to-H s e) v (e .J s) k (X-to-H s (finer e k pos) (X * k)) (J-to-H s (finer e k pos)) (rw sub-mul) (rw sub-mul) h
 
   pub finer-bent : BentSignal s e X v → BentSignal s (finer e k pos) (X * k) (v * k)
   finer-bent (inl a) = inl (omega (arith, mul-lt-mul-of-pos-right (a .0) pos), at-mul s v X k k (a .1) (at-refl s k))

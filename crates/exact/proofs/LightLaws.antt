@@ -91,5 +91,6 @@ at-most-two l x h =
     let most = cross-power 2523 n d 77216 76544 (ratio-most (h .w .num) (h .w .den)) in
     let two = leb→le (77216 ^ 2523 * 1 ^ 32) (2 ^ 32 * 76544 ^ 2523) tt in
     let ratio = cross-trans (n ^ 2523) (d ^ 2523) (77216 ^ 2523) (76544 ^ 2523) (2 ^ 32) (1 ^ 32) (one-le-pow 2523 76544 (zero-lt-suc 76543)) most two in
-    let value = cross-trans (x .num ^ 32) (x .den ^ 32) (n ^ 2523) (d ^ 2523) (2 ^ 32) (1 ^ 32) (one-le-pow 2523 d (ratioDen-pos (h .w .num) (h .w .den) (h .w .pos))) (h .of-signal) ratio in
+    let value = cross-trans (x .num ^ 32) (x .den ^ 32) (n ^ 2523) (d ^ 2523) (2 ^ 32) (1 ^ 32)
+    (one-le-pow 2523 d (ratioDen-pos (h .w .num) (h .w .den) (h .w .pos))) (h .of-signal) ratio in
     record { cross = cross-root 32 (x .num) (x .den) 2 1 (λ e. omega arith) value }

@@ -80,7 +80,8 @@ module _ {G : Given} (S : Sound G) {peak : ℕ} where
       let above : relative (y .own) ↑ 6 ≼ scene f ↑ 6 · lower = record { cross = y .bounds } in
       let own : x .own ≼ y .own = record { cross = omega (arith, results-apart _ _ (x .own-result) (y .own-result) .cross) } in
       let owns : relative (x .own) ≼ relative (y .own) = ≼-product own (≼-refl (over 1 thousand thousand-pos)) in
-      let luminances : lower ≼ upper = luminance-grows (y .r) (x .r) (y .z) (x .z) (y .pos) (x .pos) (λ j. record { cross = omega (arith, results-apart _ _ (y .results j) (x .results j) .cross) }) in
+      let luminances : lower ≼ upper = luminance-grows (y .r) (x .r) (y .z) (x .z) (y .pos) (x .pos)
+      (λ j. record { cross = omega (arith, results-apart _ _ (y .results j) (x .results j) .cross) }) in
       let lit-luminance = luminance-pos (x .r) (x .z) (x .pos) h (x .results) in
       ≼-root 6 (λ z. omega arith)
       (≼-cancel upper lit-luminance (≼-trans below (≼-trans (≼-power 6 owns) (≼-trans above (≼-product (≼-refl (scene f ↑ 6)) luminances)))))

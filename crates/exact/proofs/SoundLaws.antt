@@ -22,16 +22,25 @@ pub record Beside (s : Side) (J H X v : ℕ) : Type 0 where
   pub bent : 3 * J ≤ 2 * X + H → At s (4 * (H - X) ^ 3 + 27 * (H - J) ^ 2 * v) (27 * (H - J) ^ 2 * J)
 
 -- ---- the spline, of the lengths u = H − X and b = H − J, when each moves from its unfavourable fraction to its own place
-spline-falls : (u u' b b' v J J' : ℕ) → 0 < b → u' ≤ u → b ≤ b' → J ≤ J' → 4 * u ^ 3 + 27 * b ^ 2 * v ≤ 27 * b ^ 2 * J → 4 * u' ^ 3 + 27 * b' ^ 2 * v ≤ 27 * b' ^ 2 * J'
+spline-falls : (u u' b b' v J J' : ℕ) → 0 < b → u' ≤ u → b ≤ b' → J ≤ J' → 4 * u ^ 3 + 27 * b ^ 2 * v ≤ 27 * b ^ 2 * J
+    → 4 * u' ^ 3 + 27 * b' ^ 2 * v ≤ 27 * b' ^ 2 * J'
 spline-falls u u' b b' v J J' p hu hb hJ h = go (le-dest (le-of-mul-le-mul-left {m = v} {n = J} {k = b * b} (omega (arith, simp powers at h)) (mul-pos p p)))
   where
     go : (k : ℕ) × (v + k ≡ J) → 4 * u' ^ 3 + 27 * b' ^ 2 * v ≤ 27 * b' ^ 2 * J'
     go w =
         let more : v + w .0 ≤ J' = omega (arith, w .1) in
         simp powers
-        (omega (arith, mul-le-mul hu (mul-le-mul hu hu), simp powers at h, ap (λ x. b * b * x) (w .1), mul-le-mul-right (w .0) (mul-le-mul hb hb), mul-le-mul-left (b' * b') more))
+        (omega (
+          arith,
+          mul-le-mul hu (mul-le-mul hu hu),
+          simp powers at h,
+          ap (λ x. b * b * x) (w .1),
+          mul-le-mul-right (w .0) (mul-le-mul hb hb),
+          mul-le-mul-left (b' * b') more,
+        ))
 
-spline-rises : (u u' b b' v J J' : ℕ) → u ≤ u' → b' ≤ b → J' ≤ J → 27 * b ^ 2 * J ≤ 4 * u ^ 3 + 27 * b ^ 2 * v → 27 * b' ^ 2 * J' ≤ 4 * u' ^ 3 + 27 * b' ^ 2 * v
+spline-rises : (u u' b b' v J J' : ℕ) → u ≤ u' → b' ≤ b → J' ≤ J → 27 * b ^ 2 * J ≤ 4 * u ^ 3 + 27 * b ^ 2 * v
+    → 27 * b' ^ 2 * J' ≤ 4 * u' ^ 3 + 27 * b' ^ 2 * v
 spline-rises u u' b b' v J J' hu hb hJ h = go (decLe v J')
   where
     go : Dec (v ≤ J') → 27 * b' ^ 2 * J' ≤ 4 * u' ^ 3 + 27 * b' ^ 2 * v
@@ -39,7 +48,14 @@ spline-rises u u' b b' v J J' hu hb hJ h = go (decLe v J')
         let w = le-dest l in
         let more : v + w .0 ≤ J = omega (arith, w .1) in
         simp powers
-        (omega (arith, mul-le-mul hu (mul-le-mul hu hu), simp powers at h, ap (λ x. b' * b' * x) (w .1), mul-le-mul-right (w .0) (mul-le-mul hb hb), mul-le-mul-left (b * b) more))
+        (omega (
+          arith,
+          mul-le-mul hu (mul-le-mul hu hu),
+          simp powers at h,
+          ap (λ x. b' * b' * x) (w .1),
+          mul-le-mul-right (w .0) (mul-le-mul hb hb),
+          mul-le-mul-left (b * b) more,
+        ))
     go (no l) =
         let less : J' ≤ v = omega arith in
         simp powers (omega (arith, mul-le-mul-left (b' * b') less))
@@ -64,19 +80,22 @@ module _ {peak : ℕ} (e : Ends peak) (J H : ℕ) (f : Within e J H) where
   low-sound x X v h l m (inr (inl a)) =
       record {
         straight = λ g. absurd (omega (arith, a .0, f));
-        bent = λ g. spline-falls (X-to-H low e x) (H - X) (J-to-H low e) (H - J) v (e .J low) J (omega (arith, e .apart)) (omega (arith, f)) (omega (arith, f)) (f .J-from) (a .1);
+        bent = λ g. spline-falls (X-to-H low e x) (H - X) (J-to-H low e) (H - J) v (e .J low) J (omega (arith, e .apart)) (omega (arith, f))
+            (omega (arith, f)) (f .J-from) (a .1);
       }
   low-sound x X v h l m (inr (inr a)) =
       record {
         straight = λ g. omega (arith, a .0);
-        bent = λ g. spline-falls (X-to-H low e x) (H - X) (J-to-H low e) (H - J) v (e .J low) J (omega (arith, e .apart)) (omega (arith, f)) (omega (arith, f)) (f .J-from) (a .1);
+        bent = λ g. spline-falls (X-to-H low e x) (H - X) (J-to-H low e) (H - J) v (e .J low) J (omega (arith, e .apart)) (omega (arith, f))
+            (omega (arith, f)) (f .J-from) (a .1);
       }
 
   high-sound : (x X v : ℕ) → X ≤ x → X ≤ H → BentSignal high e x v → Beside high J H X v
   high-sound x X v h m (inl a) = record { straight = λ g. omega (arith, a .1); bent = λ g. absurd (omega (arith, a .0, f)) }
   high-sound x X v h m (inr (inl a)) =
       record {
-        straight = λ g. let t = above-knee (X-to-H high e x) (e .H low - e .J high) (J-to-H high e) v (e .J high) (omega (arith, f, e .apart)) (omega (arith, a .0, e .apart)) (omega (arith, f)) (a .1) in omega (arith, f, e .apart);
+        straight = λ g. let t = above-knee (X-to-H high e x) (e .H low - e .J high) (J-to-H high e) v (e .J high) (omega (arith, f, e .apart))
+            (omega (arith, a .0, e .apart)) (omega (arith, f)) (a .1) in omega (arith, f, e .apart);
         bent = λ g. spline-rises (X-to-H high e x) (H - X) (J-to-H high e) (H - J) v (e .J high) J (omega (arith, f)) (omega (arith, f)) (f .J-to) (a .1);
       }
   high-sound x X v h m (inr (inr a)) =
@@ -98,5 +117,6 @@ beside-ordered J H X v u p a b = go (decLe (3 * J) (2 * X + H))
     gap = omega arith
 
     go : Dec (3 * J ≤ 2 * X + H) → v ≤ u
-    go (yes k) = le-of-mul-le-mul-left {k = 27 * ((H - J) * (H - J))} (omega (arith, simp powers at (a .bent k), simp powers at (b .bent k))) (omega (arith, mul-pos gap gap))
+    go (yes k) = le-of-mul-le-mul-left {k = 27 * ((H - J) * (H - J))} (omega (arith, simp powers at (a .bent k), simp powers at (b .bent k)))
+        (omega (arith, mul-pos gap gap))
     go (no k) = omega (arith, a .straight (lt-of-not-le k), b .straight (lt-of-not-le k))

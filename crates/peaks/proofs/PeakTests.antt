@@ -52,7 +52,11 @@ one→ k p q a s j l t =
       range = ltb→lt k 3504 (and-l c1 (c2 && (c3 && (c4 && c5))) t);
       from = leb→le p l (and-l c2 (c3 && (c4 && c5)) t2);
       to = ltb→lt l q (and-l c3 (c4 && c5) t3);
-      between = record { low = at-least-of-above (aboveTest→ (whole l) (positionSignal (pred (k * 256 + f))) (a + s * (2 * f - 1) / 512) 64 j (and-l c4 c5 t4)); high = atMostTest→ (whole l) (positionSignal (k * 256 + f + 2)) (a + s * (2 * f + 3) / 512) 64 j (and-r c4 c5 t4) };
+      between = record {
+        low = at-least-of-above (aboveTest→ (whole l) (positionSignal (pred (k * 256 + f))) (a + s * (2 * f - 1) / 512) 64 j
+            (and-l c4 c5 t4));
+        high = atMostTest→ (whole l) (positionSignal (k * 256 + f + 2)) (a + s * (2 * f + 3) / 512) 64 j (and-r c4 c5 t4);
+      };
     }
 
 -- n peaks of one cell, from the peak m on

@@ -13,6 +13,7 @@ use Rattle.quantity.specs.Units.{units}
 use Rattle.pq.specs.LightTable.{lightTable, lightEntry}
 use Rattle.position.specs.Position.{positionOf}
 use Rattle.pq.proofs.TableHints.{hints}
+use Rattle.pq.proofs.EntryLaws.{table-length}
 use Rattle.pq.proofs.PqTests.{Hint, hint}
 use Rattle.peaks.proofs.PeakTests.{walk, walk→, Found, Between}
 use Rattle.position.proofs.PositionLaws.{in-cell}
@@ -29,10 +30,6 @@ start→ f e k m [] hs t h i l r = absurd t
 start→ f e k m (p ∷ ps) [] t h i l r = absurd t
 start→ f e k m (p ∷ ps) (hint a b j ∷ hs) t h i l r =
     walk→ f e k m p (a * 2 ^ (64 - b)) j ps hs t (h 0 (omega arith) ∙ ap f (add-zero k)) (λ d s. h (suc d) (omega arith) ∙ ap f (omega arith)) i l r
-
-table-length : length lightTable ≡ 3505
-unfolding lightTable
-table-length = refl
 
 part-at : (k c i : ℕ) → i < length (take c (drop k lightTable)) → getD (take c (drop k lightTable)) i 0 ≡ lightEntry (k + i)
 unfolding lightEntry

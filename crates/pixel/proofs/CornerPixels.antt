@@ -62,7 +62,8 @@ at-end : (peak : ℕ) → 1000 < peak → bentLight peak (lightAt 897024) 897024
 unfolding lastPosition lightAt lightEntry lightTable
 at-end peak h =
     bent-at peak h 897024
-    ∙ ap lightAt (curve-end (positionOf thousand) (positionOf (peak * units)) (peak-above peak h) (peak-near peak h) 897024 (position-is (peak * units) .range))
+    ∙ ap lightAt (curve-end (positionOf thousand) (positionOf (peak * units)) (peak-above peak h) (peak-near peak h) 897024
+    (position-is (peak * units) .range))
     ∙ ap lightAt thousand-position
 
 -- a grey of light l keeps the light n that it is bent to

@@ -6,8 +6,9 @@ use native.Mathlib.Omega.{arith}
 use Rattle.laws.proofs.DivisionLaws.{floor-le, lt-floor}
 use Rattle.quantity.specs.Units.{thousand, tenThousand, lastPosition}
 use Rattle.quantity.specs.Component.{Component, Pixel, brightest}
+use Rattle.quantity.proofs.ComponentLaws.{brightest-at, each-le, brightest-of}
 use Rattle.position.specs.Position.{codePosition, codeLight, lightAt}
-use Rattle.position.proofs.LightLaws.{light-at-most, code-light-at, code-light-grows, brightest-at, each-le, brightest-of}
+use Rattle.position.proofs.LightLaws.{light-at-most, code-light-at, code-light-grows}
 use Rattle.eetf.specs.Curve.{bentLight, mappedLight}
 use Rattle.eetf.proofs.CurveLaws.{bent-le-thousand}
 use Rattle.eetf.proofs.MappingLaws.{ratio-le}

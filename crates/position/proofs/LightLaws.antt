@@ -1,12 +1,11 @@
--- Lights of positions and of codes: over any table of entries that grow, then of the light table itself; and the brightest of three.
-use mathlib.Core.Path.{_≡_, refl, sym, ap, _∙_}
+-- Lights of positions and of codes: over any table of entries that grow, then of the light table itself.
+use mathlib.Core.Path.{_≡_, sym, ap, _∙_}
 use mathlib.Core.List.{List}
-use Prim.Native.Nat.{ℕ, max, min, _+_, _-_, _*_, _/_, _%_, _≤_, _<_}
-use native.Mathlib.Nat.{le-trans, le-of-eq, le-antisymm, mul-le-mul-left, zero-lt-suc, mul-add-div}
+use Prim.Native.Nat.{ℕ, _+_, _-_, _*_, _/_, _%_, _≤_, _<_}
+use native.Mathlib.Nat.{le-trans, mul-le-mul-left, zero-lt-suc, mul-add-div}
 use native.Mathlib.Decide.{decLe}
 use native.Mathlib.Omega.{arith}
 use Rattle.quantity.specs.Units.{tenThousand, lastPosition}
-use Rattle.quantity.specs.Component.{Component, red, green, blue, Pixel, brightest}
 use Rattle.pq.specs.LightTable.{lightTable, lightEntry}
 use Rattle.pq.specs.Pq.{entryIn}
 use Rattle.pq.proofs.EntryLaws.{entries-grow, entry-first, entry-last, entry-past}
@@ -114,24 +113,3 @@ lent-light t q e = ap (λ (s : List ℕ). lightAtIn (entryIn s) q) e
 pub lent-code-light : (t : List ℕ) (D : ℕ) → t ≡ lightTable → codeLightIn (entryIn t) D ≡ codeLight D
 unfolding codeLight lightEntry
 lent-code-light t D e = ap (λ (s : List ℕ). codeLightIn (entryIn s) D) e
-
--- ---- the brightest of three numbers: one of them, none below it; where others grow with them, theirs
-pub brightest-at : (p : Pixel) → (i : Component) × (p i ≡ brightest p)
-brightest-at p = go (decLe (p green) (p red)) (decLe (p blue) (max (p red) (p green)))
-  where
-    go : Dec (p green ≤ p red) → Dec (p blue ≤ max (p red) (p green)) → (i : Component) × (p i ≡ brightest p)
-    go (yes a) (yes b) = (red, omega arith)
-    go (no a) (yes b) = (green, omega arith)
-    go d (no b) = (blue, omega arith)
-
-pub each-le : (p : Pixel) (i : Component) → p i ≤ brightest p
-each-le p red = omega arith
-each-le p green = omega arith
-each-le p blue = omega arith
-
-pub brightest-of : (f : ℕ → ℕ) → ((a b : ℕ) → a ≤ b → f a ≤ f b) → (p : Pixel) → brightest (λ i. f (p i)) ≡ f (brightest p)
-brightest-of f grows p =
-    let top = brightest-at p in
-    let most = brightest-at (λ i. f (p i)) in
-    le-antisymm (le-trans (le-of-eq (sym (most .1))) (grows (p (most .0)) (brightest p) (each-le p (most .0))))
-    (le-trans (le-of-eq (ap f (sym (top .1)))) (each-le (λ i. f (p i)) (top .0)))

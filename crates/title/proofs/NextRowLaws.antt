@@ -43,7 +43,8 @@ whole-destination source row codes h =
     simp (h, n, drop-of-length-le codes {i = 6 * (length row / 6)} (omega (arith, k .same, k .pixels)), append-nil)
 
 -- a row that is refused leaves its destination
-pub destination-left : (source : Source) (row codes : List ℕ) {number place : ℕ} → rowAnswer source row (length codes) 0 (length row / 6) ≡ Refused number place
+pub destination-left : (source : Source) (row codes : List ℕ) {number place : ℕ}
+    → rowAnswer source row (length codes) 0 (length row / 6) ≡ Refused number place
     → destinationAfter source row codes 0 (length row / 6) ≡ codes
 unfolding destinationAfter
 destination-left source row codes h = simp h
