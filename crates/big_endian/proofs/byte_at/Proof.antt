@@ -9,12 +9,6 @@ use Rattle.big_endian.proofs.byte_at.Reads as reads
 use Rattle.big_endian.proofs.byte_at.Lts as lts
 use Rattle.big_endian.proofs.widen.Reads as widen-reads
 
-shared-slice-read-widen : tie.Need-shared-slice-read-widen
-shared-slice-read-widen c = search needs
-
-widen-requires : tie.Need-widen-requires
-widen-requires c κs = search needs
-
 returns : tie.Need-returns
 returns c = search needs
 
@@ -22,4 +16,4 @@ past-end : tie.Need-returns-2
 past-end c = (sym (List·getD-eq-default (c .before .before .args .bytes .now) 0 (c .if1 .left)), omega arith)
 
 pub byte-at-spec : {M : Type 1} → statement M
-byte-at-spec = tie.close (tie.spec shared-slice-read-widen widen-requires returns past-end)
+byte-at-spec = tie.close (tie.spec (λ c. search needs) (λ c κs. search needs) returns past-end)

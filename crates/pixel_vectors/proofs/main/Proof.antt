@@ -12,12 +12,6 @@ abbrev μ-loop : tie.MeasureT-loop
 loop-holds : tie.Need-loop-holds Inv-loop μ-loop
 loop-holds c = search needs
 
-answer-next-requires : tie.Need-answer-next-requires Inv-loop μ-loop
-answer-next-requires c κs = search needs
-
-sub-questions : tie.Need-sub-questions Inv-loop μ-loop
-sub-questions c = search needs
-
 loop-less : tie.Need-loop-less Inv-loop μ-loop
 loop-less c = search needs
 
@@ -37,8 +31,8 @@ main-spec =
     Inv-loop
     μ-loop
     loop-holds
-    answer-next-requires
-    sub-questions
+    (λ c κs. search needs)
+    (λ c. search needs)
     loop-less
     loop-again
     returns

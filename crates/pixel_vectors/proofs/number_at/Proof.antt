@@ -13,18 +13,6 @@ abbrev μ-loop : tie.MeasureT-loop
 loop-holds : tie.Need-loop-holds Inv-loop μ-loop
 loop-holds c = search needs
 
-add-widen : tie.Need-add-widen Inv-loop μ-loop
-add-widen c = search needs
-
-element-copy-out-widen : tie.Need-element-copy-out-widen Inv-loop μ-loop
-element-copy-out-widen c = search needs
-
-widen-requires : tie.Need-widen-requires Inv-loop μ-loop
-widen-requires c κs = search needs
-
-add-i : tie.Need-add-i Inv-loop μ-loop
-add-i c = search needs
-
 loop-less : tie.Need-loop-less Inv-loop μ-loop
 loop-less c = search needs
 
@@ -41,10 +29,10 @@ number-at-spec =
     Inv-loop
     μ-loop
     loop-holds
-    add-widen
-    element-copy-out-widen
-    widen-requires
-    add-i
+    (λ c. search needs)
+    (λ c. search needs)
+    (λ c κs. search needs)
+    (λ c. search needs)
     loop-less
     loop-again
     returns)
