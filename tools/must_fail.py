@@ -50,7 +50,7 @@ def refused(crate, edit):
             return False, [fault]
         run = subprocess.run(["rt", "dev", crate], cwd=tree, capture_output=True, text=True, env={**os.environ, "RT_CUT": "0"})
         lines = (run.stdout + run.stderr).replace(str(tree), "").splitlines()
-    told = [line for line in lines if re.search(r"error|refused|not proved|counterexample|has no `Need", line)]
+    told = [line for line in lines if re.search(r"error:|not proved|has no `Need", line)]
     return run.returncode != 0, [line[:300] for line in told[:8]]
 
 
