@@ -25,7 +25,7 @@ const LOWEST_PEAK_POSITION: u64 = 674504;
 pub fn highlight_curve(peak: u64, m1: DisplayLight, m: Position) -> DisplayLight
     ensures { λ r. ⌜ r .0 ≡ bentLight (peakRead peak) (min (m1 .0) tenThousand) (min (m .0) lastPosition) ⌝ }
 {
-    let read = smaller(larger(peak, 1), 10000);
+    let read = read_peak(peak);
     let mut lights = [0u64; 3505];
     let w = fill_lights(&mut lights, DisplayLight(read * UNITS));
     bent_light(&lights, read, w, m1, m)
@@ -45,6 +45,13 @@ pub fn bent_light(
         return DisplayLight(smaller(m1.0, THOUSAND));
     }
     knee_curve(lights, w, m1, m)
+}
+
+// A declared peak as it is read: whole cd/m2 from 1 to 10,000.
+pub fn read_peak(peak: u64) -> u64
+    ensures { λ r. ⌜ r ≡ peakRead peak ⌝ }
+{
+    smaller(larger(peak, 1), 10000)
 }
 
 // M2 under a peak above 1,000 cd/m2 whose position is w, on a lent light table: M1 below the knee, then the light at the spline. Above the
