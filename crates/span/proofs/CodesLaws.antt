@@ -1,15 +1,16 @@
 -- Laws of a pixel's codes: each stage on what the stage before it gave is that of the converted pixel.
 use mathlib.Core.Path.{_≡_, sym, _∙_, ap, ap₂}
-use Prim.Native.Nat.{ℕ, zero, suc, max, _*_, _/_, _≤_, _<_}
+use Prim.Native.Nat.{ℕ, zero, suc, max, min, _*_, _/_, _≤_, _<_}
 use native.Mathlib.Nat.{div-zero}
 use native.Mathlib.Omega.{arith}
 use Rattle.laws.proofs.DivisionLaws.{floor-is}
+use Rattle.quantity.specs.Units.{tenThousand, lastPosition}
 use Rattle.quantity.specs.Component.{Component, red, green, blue, Pixel}
 use Rattle.position.specs.Position.{codeLight}
 use Rattle.eetf.specs.Curve.{bentLight, mappedLight}
 use Rattle.hlg.specs.Code.{HlgCodes}
 use Rattle.pixel.specs.Conversion.{brightestLight, brightestPosition, bent, mapped, code}
-use Rattle.pixel.proofs.PixelLaws.{component-le}
+use Rattle.pixel.proofs.PixelLaws.{component-le, brightest-light-at-most, brightest-position-range}
 
 -- c m / m is c, also where both are 0
 unscaled : (c m : ℕ) → c ≤ m → c ≡ c * m / m
@@ -17,13 +18,15 @@ unscaled c zero h = let e : c ≡ 0 = omega arith in e ∙ sym (div-zero (c * 0)
 unscaled c (suc m) h = let pos : 0 < suc m = omega arith in floor-is pos .1 (omega arith, omega arith)
 
 module _ (peak : ℕ) (p : Pixel) where
-  pub brightest-light-is : {R G B M : ℕ} → R ≡ codeLight (p red) → G ≡ codeLight (p green) → B ≡ codeLight (p blue) → M ≡ max (max R G) B → M ≡ brightestLight p
+  pub brightest-light-is : {R G B M : ℕ} → R ≡ codeLight (p red) → G ≡ codeLight (p green) → B ≡ codeLight (p blue) → M ≡ max (max R G) B
+      → M ≡ brightestLight p
   unfolding brightestLight
   brightest-light-is er eg eb e = omega arith
 
-  pub bent-is : {M m N : ℕ} → M ≡ brightestLight p → m ≡ brightestPosition p → N ≡ bentLight peak M m → N ≡ bent peak p
+  -- neither its light nor its position is past the end at which the curve reads them
+  pub bent-is : {M m N : ℕ} → M ≡ brightestLight p → m ≡ brightestPosition p → N ≡ bentLight peak (min M tenThousand) (min m lastPosition) → N ≡ bent peak p
   unfolding bent
-  bent-is eM em e = e ∙ ap₂ (bentLight peak) eM em
+  bent-is eM em e = e ∙ ap₂ (bentLight peak) (omega (arith, brightest-light-at-most p)) (omega (arith, brightest-position-range p))
 
   pub mapped-is : (i : Component) {C M N x : ℕ} → C ≡ codeLight (p i) → M ≡ brightestLight p → N ≡ bent peak p → x ≡ mappedLight C M N → x ≡ mapped peak p i
   unfolding mapped

@@ -15,12 +15,12 @@ ghost use Rattle.quantity.specs.Units.{units};
 ghost use Rattle.quantity.specs.Component.{red, green, blue, pixel};
 ghost use Rattle.pq.specs.LightTable.{lightTable};
 ghost use Rattle.position.specs.Position.{positionOf};
-ghost use Rattle.eetf.specs.Curve.{peakRead};
 ghost use Rattle.hlg_steps.specs.StepTable.{stepTable};
 ghost use Rattle.pixel.specs.Conversion.{code};
 ghost use Rattle.rows.specs.Row.{spanBytes};
 ghost use Rattle.span.specs.Span.{codesUnder, convertedInto};
 use block::convert_block;
+use eetf::read_peak;
 use hints::hint_table;
 use hlg::Codes;
 use hlg_steps::step_table;
@@ -30,8 +30,7 @@ use position::fill_lights;
 use quantity::DisplayLight;
 use quantity::Position;
 use quantity::Source;
-use quantity::larger;
-use quantity::smaller;
+use quantity::UNITS;
 use root::lower_root;
 use root::weigh;
 use rows::fewer;
@@ -47,7 +46,7 @@ pub fn convert_span(source: Source, src: &[u8], dst: &mut [u8])
     }
     let peak = read_peak(source.peak);
     let mut lights = [0u64; 3505];
-    let w = fill_lights(&mut lights, DisplayLight(peak * 16777216));
+    let w = fill_lights(&mut lights, DisplayLight(peak * UNITS));
     let steps = step_table();
     let hints = hint_table();
     convert_blocks(&lights, &steps, &hints, w, peak, src, dst, pixels);
@@ -60,19 +59,12 @@ pub fn pixel_codes(source: Source, r: u64, g: u64, b: u64) -> Codes
 {
     let peak = read_peak(source.peak);
     let mut lights = [0u64; 3505];
-    let w = fill_lights(&mut lights, DisplayLight(peak * 16777216));
+    let w = fill_lights(&mut lights, DisplayLight(peak * UNITS));
     let steps = step_table();
     let hints = hint_table();
     let m = mapped_lights(&lights, &hints, w, peak, r, g, b);
     let root = lower_root(&hints, weigh(m.red, m.green, m.blue));
     near_codes(&steps, &hints, root, m.red, m.green, m.blue)
-}
-
-// A declared peak as it is read: whole cd/m2 from 1 to 10,000.
-fn read_peak(peak: u64) -> u64
-    ensures { λ r. ⌜ r ≡ peakRead peak ⌝ }
-{
-    smaller(larger(peak, 1), 10000)
 }
 
 // The first pixels of dst, converted from those of src, block by block. Other bytes of dst remain.

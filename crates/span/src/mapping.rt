@@ -1,14 +1,14 @@
 // A pixel's mapped components, by lent tables and the position of the peak.
 ghost use mathlib.Core.Path.{_≡_};
 ghost use Prim.Native.Nat.{max, _*_, _-_, _≤_};
-ghost use Rattle.quantity.specs.Units.{units, thousand, tenThousand, lastPosition};
+ghost use Rattle.quantity.specs.Units.{units, thousand, tenThousand};
 ghost use Rattle.quantity.specs.Component.{red, green, blue, pixel};
 ghost use Rattle.pq.specs.LightTable.{lightTable};
 ghost use Rattle.position.specs.Position.{codeRead, positionOf};
-ghost use Rattle.eetf.specs.Curve.{bentLight, mappedLight};
+ghost use Rattle.eetf.specs.Curve.{mappedLight};
 ghost use Rattle.pixel.specs.Conversion.{mapped};
 use crate::hints::factor_hint;
-use eetf::knee_curve;
+use eetf::bent_light;
 use eetf::map_component;
 use position::light_of_code_in;
 use position::read_code;
@@ -30,26 +30,6 @@ fn code_position(d: u64) -> Position
     ensures { λ m. ⌜ m .0 ≡ 1024 * (codeRead d - 64) ⌝ }
 {
     Position(1024 * (read_code(d) - 64))
-}
-
-// M2: up to a peak of 1,000 cd/m2 nothing is bent, and the delivery shows no more than that.
-fn bent_light(
-    lights: &[u64; 3505],
-    w: Position,
-    peak: u64,
-    m1: DisplayLight,
-    m: Position,
-) -> DisplayLight
-    requires { ⌜ (now lights ≡ lightTable) × (w .0 ≡ positionOf (peak * units)) × (m1 .0 ≤ tenThousand) × (m .0 ≤ lastPosition) ⌝ }
-    ensures { λ m2. ⌜ m2 .0 ≡ bentLight peak (m1 .0) (m .0) ⌝ }
-{
-    if 1000 < peak {
-        return knee_curve(lights, w, m1, m);
-    }
-    if 16777216000 < m1.0 {
-        return DisplayLight(16777216000);
-    }
-    m1
 }
 
 // Three mapped components, in units.
@@ -90,7 +70,7 @@ pub(crate) fn mapped_lights(
     let b_light = light_of_code_in(lights, b);
     let m1 = DisplayLight(brightest_of(r_light.0, g_light.0, b_light.0));
     let d = brightest_of(r, g, b);
-    let m2 = bent_light(lights, w, peak, m1, code_position(d));
+    let m2 = bent_light(lights, peak, w, m1, code_position(d));
     if m1.0 == m2.0 {
         return Mapped {
             red: r_light.0,

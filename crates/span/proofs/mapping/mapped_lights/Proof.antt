@@ -7,8 +7,9 @@ use Rattle.quantity.specs.Units.{thousand, tenThousand}
 use Rattle.quantity.specs.Component.{Component, red, green, blue, Pixel, pixel}
 use Rattle.position.specs.Position.{codeRead, codeLight}
 use Rattle.position.proofs.LightLaws.{lent-code-light}
+use Rattle.eetf.proofs.CurveLaws.{bent-on-light-table}
 use Rattle.pixel.specs.Conversion.{brightestLight, brightestPosition, bent}
-use Rattle.pixel.proofs.PixelLaws.{component-le, brightest-light-at-most, brightest-position-range, bent-at-most}
+use Rattle.pixel.proofs.PixelLaws.{component-le, brightest-light-at-most, bent-at-most}
 use Rattle.span.proofs.CodesLaws.{brightest-light-is, bent-is, mapped-is, mapped-unbent}
 use Rattle.span.proofs.mapping.mapped_lights.Statement.{statement}
 use Rattle.span.proofs.mapping.mapped_lights.Tie as tie
@@ -39,15 +40,13 @@ brightest-position : (c : tie.After-code-position) → c .code-position .result 
 unfolding brightestPosition
 brightest-position c = c .code-position .ensures ∙ ap (λ (d : ℕ). 1024 * (codeRead d - 64)) (c .before .brightest-of2 .ensures)
 
-bent-light-requires : tie.Need-bent-light-requires
-bent-light-requires c κs =
-    let m1 = brightest-light c in
-    let m = brightest-position c in
-    (start c .pre .0, start c .pre .1, omega (arith, brightest-light-at-most (taken c)), omega (arith, brightest-position-range (taken c)))
-
 -- what the brightest light is bent to
 bent-to : (c : tie.After-bent-light) → c .bent-light .result .0 ≡ bent (start (c .before) .args .peak) (taken (c .before))
-bent-to c = bent-is _ (taken (c .before)) (brightest-light (c .before)) (brightest-position (c .before)) (c .bent-light .ensures)
+bent-to c =
+    let s = start (c .before) in
+    let a = s .args in
+    bent-is (a .peak) (taken (c .before)) (brightest-light (c .before)) (brightest-position (c .before))
+    (c .bent-light .ensures ∙ bent-on-light-table (a .lights .now) (a .peak) (a .w .0) _ _ (s .pre .0) (s .pre .1))
 
 returns : tie.Need-returns
 returns c =
@@ -106,7 +105,7 @@ mapped-lights-spec =
     (λ c κs. search needs)
     (λ c κs. search needs)
     (λ c κs. search needs)
-    bent-light-requires
+    (λ c κs. search needs)
     returns
     (λ c κs. search needs)
     (λ c κs. search needs)
