@@ -24,7 +24,8 @@ const SPREAD: u64 = 2000000000000;
 // The smallest guess that passes, 2^62.
 const GUESS: u64 = 4611686018427387904;
 
-// Y, in ten-thousandths of a unit: BT.2100's weights are whole numbers there.
+// Y, in ten-thousandths of a unit: BT.2100's weights are whole numbers there. `luminance_of` would read each component at its range's end first: of no use
+// to components known to be in it, and 2 to 8 % of a row's instructions.
 pub(crate) fn weigh(r: u64, g: u64, b: u64) -> u64
     requires { ⌜ (r ≤ thousand) × (g ≤ thousand) × (b ≤ thousand) ⌝ }
     ensures { λ y. ⌜ y ≡ luminance r g b ⌝ }
