@@ -65,7 +65,8 @@ put-decimal-returns : (t : ℕ) → put-decimal-lts.Need-returns (
   put-decimal.Post,
 ) (put-decimal-at t) put-decimal.Post
 put-decimal-returns t c =
-    rw (decimal-digit _ (c .before .before .before .before .before .if1 .taken)) (rw (c .before .before .before .digit-of .ensures) at (c .before .before .put .ensures))
+    rw (decimal-digit _ (c .before .before .before .before .before .if1 .taken))
+    (rw (c .before .before .before .digit-of .ensures) at (c .before .before .put .ensures))
 
 put-decimal-put-decimal-requires : (t : ℕ) → put-decimal-lts.Need-put-decimal-requires (
   digit-of-reads.Asked,
@@ -121,7 +122,8 @@ put-decimal-returns-2 : (t : ℕ) → put-decimal-lts.Need-returns-2 (
 ) (put-decimal-at t) put-decimal.Post
 put-decimal-returns-2 t c =
     rw (decimal-more _ (c .before .before .before .before .before .before .before .before .before .if1 .left))
-    (after (c .before .before .before .before .before .before .before .put-decimal .ensures) (rw (c .before .before .before .digit-of2 .ensures) at (c .before .before .put2 .ensures)))
+    (after (c .before .before .before .before .before .before .before .put-decimal .ensures)
+    (rw (c .before .before .before .digit-of2 .ensures) at (c .before .before .put2 .ensures)))
 
 pub +put-decimal-spec : {M : Type 1} → statement M
 +put-decimal-spec = close μ-put-decimal λ t. put-decimal-lts.spec (

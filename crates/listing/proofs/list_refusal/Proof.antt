@@ -17,7 +17,9 @@ put-word-requires c κs = search needs
 
 put-number-requires : tie.Need-put-number-requires
 put-number-requires c κs =
-    omega (arith, length-decimal 19 (c .before .before .before .before .before .before .before .args .number) (omega (arith, c .before .before .before .before .before .before .before .fits .number)), c .before .before .before .put-word .ensures .place)
+    let start = c .before .before .before .before .before .before .before in
+    let digits = length-decimal 19 (start .args .number) (omega (arith, start .fits .number)) in
+    omega (arith, digits, c .before .before .before .put-word .ensures .place)
 
 same-length : tie.Need-same-length
 same-length c = search needs
@@ -25,8 +27,11 @@ same-length c = search needs
 returns-2 : tie.Need-returns-2
 unfolding refusalLineWithin refusalLine
 returns-2 c =
-    simp (le-leb _ _ (c .before .before .before .before .before .before .before .before .if1 .left))
-    (from-start (after (c .before .before .before .before .before .before .put-word .ensures) (c .before .before .put-number .ensures)) (omega (arith, refusal-short (c .before .before .before .before .before .before .before .before .before .before .args .number) (omega (arith, c .before .before .before .before .before .before .before .before .before .before .fits .number)))))
+    let word = c .before .before .before .before .before .before in
+    let tested = word .before .before in
+    let start = tested .before .before in
+    let short = refusal-short (start .args .number) (omega (arith, start .fits .number)) in
+    simp (le-leb _ _ (tested .if1 .left)) (from-start (after (word .put-word .ensures) (c .before .before .put-number .ensures)) (omega (arith, short)))
 
 pub list-refusal-spec : {M : Type 1} → statement M
 list-refusal-spec =

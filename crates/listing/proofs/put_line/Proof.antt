@@ -11,18 +11,25 @@ put-number-requires c κs = omega (arith, rw length-line at (c .before .before .
 
 put-number-requires-2 : tie.Need-put-number-requires-2
 put-number-requires-2 c κs =
-    omega (arith, rw length-line at (c .before .before .before .before .before .before .pre), simp length-append at (c .before .before .before .put-number .ensures .place))
+    let room = rw length-line at (c .before .before .before .before .before .before .pre) in
+    omega (arith, room, simp length-append at (c .before .before .before .put-number .ensures .place))
 
 put-number-requires-3 : tie.Need-put-number-requires-3
 put-number-requires-3 c κs =
-    omega (arith, rw length-line at (c .before .before .before .before .before .before .before .before .before .before .pre), simp length-append at (c .before .before .before .before .before .before .before .put-number .ensures .place), simp length-append at (c .before .before .before .put-number2 .ensures .place))
+    let first = c .before .before .before .before .before .before .before in
+    let room = rw length-line at (first .before .before .before .pre) in
+    let red = simp length-append at (first .put-number .ensures .place) in
+    omega (arith, room, red, simp length-append at (c .before .before .before .put-number2 .ensures .place))
 
 same-length : tie.Need-same-length
 same-length c = search needs
 
 returns : tie.Need-returns
 returns c =
-    rw line-parts (after (after (c .before .before .before .before .before .before .before .before .before .before .put-number .ensures) (c .before .before .before .before .before .before .put-number2 .ensures)) (c .before .before .put-number3 .ensures))
+    let third = c .before .before in
+    let second = third .before .before .before .before in
+    let first = second .before .before .before .before in
+    rw line-parts (after (after (first .put-number .ensures) (second .put-number2 .ensures)) (third .put-number3 .ensures))
 
 pub put-line-spec : {M : Type 1} → statement M
 put-line-spec =

@@ -38,7 +38,9 @@ loop-again c =
       omega arith,
       omega (arith, line .place),
       omega arith,
-      rw lines-more (after (c .before .before .before .before .before .before .before .before .loop .inv .3) (rw (red .ensures .0, green .ensures .0, blue .ensures .0) at line)),
+      rw lines-more
+          (after (c .before .before .before .before .before .before .before .before .loop .inv .3)
+          (rw (red .ensures .0, green .ensures .0, blue .ensures .0) at line)),
     )
 
 returns : tie.Need-returns Inv-loop μ-loop

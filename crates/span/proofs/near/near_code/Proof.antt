@@ -28,7 +28,8 @@ returns-3 : tie.Need-returns-3
 returns-3 c =
     let s = c .before .before .before .before .before in
     λ p y low high.
-    lent-code (s .args .steps .now) y (s .args .r) (s .args .g) _ _ _ (s .pre .0) low high (omega arith) (omega arith) (c .search-near .ensures p) (omega arith)
+    lent-code (s .args .steps .now) y (s .args .r) (s .args .g) _ _ _ (s .pre .0) low high (omega arith) (omega arith)
+    (c .search-near .ensures p) (omega arith)
 
 pub near-code-spec : {M : Type 1} → statement M
 near-code-spec =
