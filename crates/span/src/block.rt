@@ -1,10 +1,10 @@
 // A block of up to 32 pixels of a span, in three passes: mapped components, roots of their luminances, codes. Within a pass no pixel waits for another, so
 // a processor works on several at once. A pixel that equals the one before it takes over what that was given: flat areas are mostly such pixels.
 ghost use mathlib.Core.Path.{_≡_};
-ghost use Prim.Native.Nat.{_*_, _≤_};
+ghost use Prim.Native.Nat.{_*_, _≤_, _<_};
 ghost use lib.ListN.{length};
 ghost use Rattle.quantity.specs.Units.{units, thousand};
-ghost use Rattle.quantity.specs.Component.{pixel};
+ghost use Rattle.quantity.specs.Component.{red, green, blue, pixel};
 ghost use Rattle.pq.specs.LightTable.{lightTable};
 ghost use Rattle.position.specs.Position.{positionOf};
 ghost use Rattle.hlg_steps.specs.StepTable.{stepTable};
@@ -12,7 +12,7 @@ ghost use Rattle.hlg.specs.Code.{luminance, HlgCodes};
 ghost use Rattle.hlg.specs.Root.{IsRoot};
 ghost use Rattle.pixel.specs.Conversion.{code};
 ghost use Rattle.rows.specs.Row.{sampleAt, pixelBytes, spanBytes};
-ghost use Rattle.span.specs.Block.{HasMapped, MappedTo, Within, RootsTo, blockBytes};
+ghost use Rattle.span.specs.Block.{HasMapped, wordsAt, MappedTo, Within, RootsTo, blockBytes};
 use crate::mapping::Mapped;
 use crate::mapping::mapped_lights;
 use crate::near::near_codes;
@@ -130,6 +130,20 @@ fn map_pixels(
     }
 }
 
+// The mapped components of pixel j.
+fn words_of(words: &[u64; 96], j: usize) -> Mapped
+    requires { ⌜ j < 32 ⌝ }
+    ensures { λ m. ⌜ (m .red ≡ wordsAt (now (words .entry)) j red) × (m .green ≡ wordsAt (now (words .entry)) j green)
+        × (m .blue ≡ wordsAt (now (words .entry)) j blue) ⌝ }
+{
+    let at = 3 * j;
+    Mapped {
+        red: words[at],
+        green: words[at + 1],
+        blue: words[at + 2],
+    }
+}
+
 // A luminance and its root, or 0.
 struct Rooted {
     luminance: u64,
@@ -161,7 +175,8 @@ fn find_roots(hints: &[u64; 1361], words: &[u64; 96], roots: &mut [u64; 32], pix
     };
     let mut j = 0;
     while j < pixels {
-        let y = weigh(words[3 * j], words[3 * j + 1], words[3 * j + 2]);
+        let m = words_of(words, j);
+        let y = weigh(m.red, m.green, m.blue);
         last = root_next(hints, last, y);
         roots[j] = last.root;
         j += 1;
@@ -254,15 +269,8 @@ fn code_pixels(
     while j < pixels {
         let from = 6 * j;
         let to = from + 6;
-        last = code_next(
-            steps,
-            hints,
-            last,
-            roots[j],
-            words[3 * j],
-            words[3 * j + 1],
-            words[3 * j + 2],
-        );
+        let m = words_of(words, j);
+        last = code_next(steps, hints, last, roots[j], m.red, m.green, m.blue);
         let codes = last.codes;
         write_codes(codes, &mut dst[from..to]);
         j += 1;

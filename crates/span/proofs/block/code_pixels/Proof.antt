@@ -32,12 +32,13 @@ loop-holds c = let k = c .coded-black .ensures in (omega arith, refl, refl, blac
 
 code-next-requires : tie.Need-code-next-requires Inv-loop μ-loop
 code-next-requires c κs =
-    let start = c .before .before .before .before .before .before .before .before in
+    let start = c .before .before .before .before .before .before in
     let a = start .args in
-    let loop = c .before .before .before .before .before .loop in
+    let loop = c .before .before .before .loop in
+    let m = c .before .words-of .ensures in
     let light = within-at (a .words .now) (a .pixels) (loop .j) (start .pre .2) (omega arith) in
     let root = roots-at (a .words .now) (a .roots .now) (a .pixels) (loop .j) (start .pre .3) (omega arith) in
-    (start .pre .0, light red, light green, light blue, root, loop .inv .3)
+    (start .pre .0, rw (m .0) (light red), rw (m .1) (light green), rw (m .2) (light blue), rw (m .0, m .1, m .2) root, loop .inv .3)
 
 write-codes-requires : tie.Need-write-codes-requires Inv-loop μ-loop
 write-codes-requires c κs =
@@ -46,13 +47,14 @@ write-codes-requires c κs =
 
 loop-again : tie.Need-loop-again Inv-loop μ-loop
 loop-again c =
-    let a = c .before .before .before .before .before .before .before .before .before .before .before .before .before .before .args in
-    let loop = c .before .before .before .before .before .before .before .before .before .before .before .loop in
+    let a = c .before .before .before .before .before .before .before .before .before .before .before .before .args in
+    let loop = c .before .before .before .before .before .before .before .before .before .loop in
+    let m = c .before .before .before .before .before .before .before .words-of .ensures in
     let n = c .before .before .before .before .before .code-next .ensures in
     let ys = c .before .before .write-codes .last .1 .0 in
     let front = blockBytes (a .words .now) (loop .j) in
     let p = wordsAt (a .words .now) (loop .j) in
-    let y : ys ≡ codedBytes p = c .before .before .write-codes .ensures ∙ coded-bytes p (n .3) in
+    let y : ys ≡ codedBytes p = c .before .before .write-codes .ensures ∙ coded-bytes p (relit (sym (m .0)) (sym (m .1)) (sym (m .2)) (n .3)) in
     let put =
     put-pixels (loop .dst) (a .dst .now) front ys (loop .j) 1 (loop .inv .2) (length-block (a .words .now) (loop .j))
     ∙ ap (λ (l : List ℕ). (front ++ l) ++ drop (6 * (loop .j + 1)) (a .dst .now)) y
@@ -83,17 +85,7 @@ code-pixels-spec =
     loop-holds
     (λ c. omega arith)
     (λ c. omega arith)
-    (λ c. omega arith)
-    (λ c. omega arith)
-    (λ c. omega arith)
-    (λ c. omega arith)
-    (λ c. omega arith)
-    (λ c. omega arith)
-    (λ c. omega arith)
-    (λ c. omega arith)
-    (λ c. omega arith)
-    (λ c. omega arith)
-    (λ c. omega arith)
+    (λ c κs. omega arith)
     (λ c. omega arith)
     (λ c. omega arith)
     code-next-requires

@@ -25,14 +25,16 @@ loop-holds c =
 
 weigh-requires : tie.Need-weigh-requires Inv-loop μ-loop
 weigh-requires c κs =
-    let w = within-at _ _ _ (c .before .before .before .before .before .pre .1) (c .before .before .before .loop-test .taken) in
-    (w red, w green, w blue)
+    let w = within-at _ _ _ (c .before .before .before .pre .1) (c .before .loop-test .taken) in
+    let m = c .words-of .ensures in
+    (rw (m .0) (w red), rw (m .1) (w green), rw (m .2) (w blue))
 
 loop-again : tie.Need-loop-again Inv-loop μ-loop
 loop-again c =
-    let loop = c .before .before .before .before .before .before .loop in
+    let loop = c .before .before .before .before .loop in
+    let m = c .before .before .words-of .ensures in
     let found = c .root-next .ensures in
-    let here = rw (c .before .weigh .ensures) at (found .1) in
+    let here = rw (c .before .weigh .ensures, m .0, m .1, m .2) at (found .1) in
     (omega arith, simp length-set (loop .inv .1), roots-more _ _ _ _ (loop .inv .2) here (omega arith), rw (found .0) (found .1))
 
 returns : tie.Need-returns Inv-loop μ-loop
@@ -45,17 +47,7 @@ find-roots-spec =
     Inv-loop
     μ-loop
     loop-holds
-    (λ c. search needs)
-    (λ c. search needs)
-    (λ c. search needs)
-    (λ c. search needs)
-    (λ c. search needs)
-    (λ c. search needs)
-    (λ c. search needs)
-    (λ c. search needs)
-    (λ c. search needs)
-    (λ c. search needs)
-    (λ c. search needs)
+    (λ c κs. search needs)
     weigh-requires
     (λ c κs. search needs)
     (λ c. search needs)
