@@ -17,7 +17,7 @@ use Rattle.hlg.proofs.CodeLaws.{code-to, code-black}
 use Rattle.pixel.specs.Conversion.{brightestLight, mapped, code}
 use Rattle.pixel.proofs.PixelLaws.{mapped-dark, mapped-at-most}
 use Rattle.rows.specs.Row.{pixelAt, pixelBytes, spanBytes}
-use Rattle.span.specs.Block.{HasMapped, wordsAt, luminanceAt, MappedTo, Within, RootsTo, codedBytes, blockBytes}
+use Rattle.span.specs.Block.{HasMapped, wordsAt, storedAt, luminanceAt, MappedTo, Within, RootsTo, codedBytes, blockBytes}
 
 -- black is mapped to no light
 no-light : brightestLight (pixel 64 64 64) ≡ 0
@@ -72,7 +72,7 @@ mapped-none peak row words = below-none _
 
 pub mapped-more : (peak : ℕ) (row words : List ℕ) (j : ℕ) {r g b x y z : ℕ}
     → MappedTo peak row words j → pixel r g b ≡ pixelAt row j → HasMapped peak r g b x y z
-    → 3 * j + 2 < length words → MappedTo peak row (set (set (set words (3 * j) x) (3 * j + 1) y) (3 * j + 2) z) (j + 1)
+    → 3 * j + 2 < length words → MappedTo peak row (storedAt words j x y z) (j + 1)
 unfolding MappedTo
 mapped-more peak row words j {r} {g} {b} {x} {y} {z} before p m room =
     let here : (i : Component) → pixel x y z i ≡ mapped peak (pixel r g b) i = elim [ red ↦ m .red | green ↦ m .green | blue ↦ m .blue ] in

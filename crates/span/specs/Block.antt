@@ -3,7 +3,7 @@
 use mathlib.Core.Path.{_≡_}
 use mathlib.Core.List.{List, [], _++_}
 use Prim.Native.Nat.{ℕ, zero, suc, _+_, _*_, _≤_, _<_}
-use lib.ListN.{getD}
+use lib.ListN.{getD, set}
 use Rattle.quantity.specs.Units.{thousand}
 use Rattle.quantity.specs.Component.{Component, red, green, blue, Pixel, pixel}
 use Rattle.hlg.specs.Code.{luminance, hlgCode}
@@ -17,9 +17,12 @@ pub record HasMapped (peak r g b x y z : ℕ) : Type 0 where
   pub green : y ≡ mapped peak (pixel r g b) green
   pub blue : z ≡ mapped peak (pixel r g b) blue
 
--- the three words of pixel j, and their luminance
+-- the three words of pixel j, these stored, and their luminance
 abbrev pub wordsAt : List ℕ → ℕ → Pixel
 wordsAt words j = pixel (getD words (3 * j) 0) (getD words (3 * j + 1) 0) (getD words (3 * j + 2) 0)
+
+abbrev pub storedAt : List ℕ → ℕ → ℕ → ℕ → ℕ → List ℕ
+storedAt words j x y z = set (set (set words (3 * j) x) (3 * j + 1) y) (3 * j + 2) z
 
 abbrev pub luminanceAt : List ℕ → ℕ → ℕ
 luminanceAt words j = luminance (wordsAt words j red) (wordsAt words j green) (wordsAt words j blue)

@@ -12,7 +12,7 @@ ghost use Rattle.hlg.specs.Code.{luminance, HlgCodes};
 ghost use Rattle.hlg.specs.Root.{IsRoot};
 ghost use Rattle.pixel.specs.Conversion.{code};
 ghost use Rattle.rows.specs.Row.{sampleAt, pixelBytes, spanBytes};
-ghost use Rattle.span.specs.Block.{HasMapped, wordsAt, MappedTo, Within, RootsTo, blockBytes};
+ghost use Rattle.span.specs.Block.{HasMapped, wordsAt, storedAt, MappedTo, Within, RootsTo, blockBytes};
 use crate::mapping::Mapped;
 use crate::mapping::mapped_lights;
 use crate::near::near_codes;
@@ -123,14 +123,22 @@ fn map_pixels(
         let to = from + 6;
         last = map_next(lights, hints, w, peak, last, &src[from..to]);
         let m = last.mapped;
-        words[3 * j] = m.red;
-        words[3 * j + 1] = m.green;
-        words[3 * j + 2] = m.blue;
+        store_words(m, words, j);
         j += 1;
     }
 }
 
-// The mapped components of pixel j.
+// The mapped components of pixel j, stored and read.
+fn store_words(m: Mapped, words: &mut [u64; 96], j: usize)
+    requires { ⌜ j < 32 ⌝ }
+    ensures { λ _. ⌜ now (words .exit) ≡ storedAt (now (words .entry)) j (m .red) (m .green) (m .blue) ⌝ }
+{
+    let at = 3 * j;
+    words[at] = m.red;
+    words[at + 1] = m.green;
+    words[at + 2] = m.blue;
+}
+
 fn words_of(words: &[u64; 96], j: usize) -> Mapped
     requires { ⌜ j < 32 ⌝ }
     ensures { λ m. ⌜ (m .red ≡ wordsAt (now (words .entry)) j red) × (m .green ≡ wordsAt (now (words .entry)) j green)

@@ -33,12 +33,14 @@ map-next-requires c κs =
 
 loop-again : tie.Need-loop-again Inv-loop μ-loop
 loop-again c =
-    let src = c .before .before .before .before .before .before .before .args .src .now in
-    let loop = c .before .before .before .before .loop in
-    let n = c .before .map-next .ensures in
-    let p : pixel (c .before .map-next .result .red) (c .before .map-next .result .green) (c .before .map-next .result .blue) ≡ pixelAt src (loop .j) =
+    let src = c .before .before .before .before .before .before .before .before .before .args .src .now in
+    let loop = c .before .before .before .before .before .before .loop in
+    let next = c .before .before .before .map-next in
+    let n = next .ensures in
+    let stored = c .store-words .ensures in
+    let p : pixel (next .result .red) (next .result .green) (next .result .blue) ≡ pixelAt src (loop .j) =
     rw (n .0, n .1, n .2) (pixel-of-part src (6 * loop .j) (6 * loop .j + 6 - 6 * loop .j) 0 (loop .j) (omega arith) (omega arith)) in
-    (omega arith, simp length-set (loop .inv .1), mapped-more _ _ _ _ (loop .inv .2) p (n .3) (omega arith), n .3)
+    (omega arith, rw stored (simp length-set (loop .inv .1)), rw stored (mapped-more _ _ _ _ (loop .inv .2) p (n .3) (omega arith)), n .3)
 
 returns : tie.Need-returns Inv-loop μ-loop
 returns c = let e : c .before .loop .j ≡ c .before .before .before .before .args .pixels = omega arith in rw e at (c .before .loop .inv .2)
@@ -57,17 +59,7 @@ map-pixels-spec =
     (λ c. search needs)
     (λ c. search needs)
     map-next-requires
-    (λ c. search needs)
-    (λ c. search needs)
-    (λ c. search needs)
-    (λ c. search needs)
-    (λ c. search needs)
-    (λ c. search needs)
-    (λ c. search needs)
-    (λ c. search needs)
-    (λ c. search needs)
-    (λ c. search needs)
-    (λ c. search needs)
+    (λ c κs. search needs)
     (λ c. search needs)
     (λ c. search needs)
     loop-again
