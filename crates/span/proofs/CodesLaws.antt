@@ -1,13 +1,17 @@
 -- Laws of a pixel's codes: each stage on what the stage before it gave is that of the converted pixel.
 use mathlib.Core.Path.{_≡_, sym, _∙_, ap, ap₂}
+use mathlib.Core.List.{List}
 use Prim.Native.Nat.{ℕ, zero, suc, max, min, _*_, _/_, _≤_, _<_}
 use native.Mathlib.Nat.{div-zero}
 use native.Mathlib.Omega.{arith}
 use Rattle.laws.proofs.DivisionLaws.{floor-is}
-use Rattle.quantity.specs.Units.{tenThousand, lastPosition}
+use Rattle.quantity.specs.Units.{units, tenThousand, lastPosition}
 use Rattle.quantity.specs.Component.{Component, red, green, blue, Pixel}
-use Rattle.position.specs.Position.{codeLight}
-use Rattle.eetf.specs.Curve.{bentLight, mappedLight}
+use Rattle.pq.specs.LightTable.{lightTable}
+use Rattle.pq.specs.Pq.{entryIn}
+use Rattle.position.specs.Position.{codeLight, positionOf}
+use Rattle.eetf.specs.Curve.{peakPositionRead, bentLightIn, bentLight, mappedLight}
+use Rattle.eetf.proofs.CurveLaws.{bent-on-light-table}
 use Rattle.hlg.specs.Code.{HlgCodes}
 use Rattle.pixel.specs.Conversion.{brightestLight, brightestPosition, bent, mapped, code}
 use Rattle.pixel.proofs.PixelLaws.{component-le, brightest-light-at-most, brightest-position-range}
@@ -23,10 +27,14 @@ module _ (peak : ℕ) (p : Pixel) where
   unfolding brightestLight
   brightest-light-is er eg eb e = omega arith
 
-  -- neither its light nor its position is past the end at which the curve reads them
-  pub bent-is : {M m N : ℕ} → M ≡ brightestLight p → m ≡ brightestPosition p → N ≡ bentLight peak (min M tenThousand) (min m lastPosition) → N ≡ bent peak p
+  -- by a lent light table l and the peak's position w; neither light nor position is past the end at which the curve reads it
+  pub bent-is : (l : List ℕ) (w : ℕ) {M m N : ℕ} → l ≡ lightTable → w ≡ positionOf (peak * units) → M ≡ brightestLight p → m ≡ brightestPosition p
+      → N ≡ bentLightIn (entryIn l) peak (peakPositionRead w) (min M tenThousand) (min m lastPosition) → N ≡ bent peak p
   unfolding bent
-  bent-is eM em e = e ∙ ap₂ (bentLight peak) (omega (arith, brightest-light-at-most p)) (omega (arith, brightest-position-range p))
+  bent-is l w {M} {m} el ew eM em e =
+      e
+      ∙ bent-on-light-table l peak w (min M tenThousand) (min m lastPosition) el ew
+      ∙ ap₂ (bentLight peak) (omega (arith, brightest-light-at-most p)) (omega (arith, brightest-position-range p))
 
   pub mapped-is : (i : Component) {C M N x : ℕ} → C ≡ codeLight (p i) → M ≡ brightestLight p → N ≡ bent peak p → x ≡ mappedLight C M N → x ≡ mapped peak p i
   unfolding mapped

@@ -28,20 +28,23 @@ convert-block-requires c κs =
     let pre = c .before .before .before .before .before .before .before .pre in
     (pre .0, pre .1, pre .2, omega arith, simp (length-take, length-drop) (omega arith), simp (length-take, length-drop) (omega arith))
 
+-- one block more
+block-put : (peak : ℕ) (src dst dst₀ ys : List ℕ) (j n : ℕ) → dst ≡ spanBytes (code peak) src 0 j ++ drop (6 * j) dst₀
+    → ys ≡ spanBytes (code peak) (take (6 * j + 6 * n - 6 * j) (drop (6 * j) src)) 0 n
+    → take (6 * j) dst ++ (ys ++ drop (6 * j + 6 * n - 6 * j) (drop (6 * j) dst)) ≡ spanBytes (code peak) src 0 (j + n) ++ drop (6 * (j + n)) dst₀
+block-put peak src dst dst₀ ys j n e y =
+    let front = spanBytes (code peak) src 0 j in
+    put-pixels dst dst₀ front ys j n e (length-span (code peak) src 0 j)
+    ∙ ap (λ (l : List ℕ). (front ++ l) ++ drop (6 * (j + n)) dst₀) (y ∙ span-of-part (code peak) src j n (6 * j) (6 * j + 6 * n - 6 * j) refl (omega arith))
+    ∙ sym (ap (λ (l : List ℕ). l ++ drop (6 * (j + n)) dst₀) (span-further (code peak) src j n))
+
 loop-again : tie.Need-loop-again Inv-loop μ-loop
 loop-again c =
     let a = c .before .before .before .before .before .before .before .before .before .before .args in
     let loop = c .before .before .before .before .before .before .before .loop in
     let n = c .before .before .before .before .before .fewer .result in
     let ys = c .before .before .convert-block .last .1 .1 .1 .1 .1 .1 .0 in
-    let front = spanBytes (code (a .peak)) (a .src .now) 0 (loop .j) in
-    let y : ys ≡ spanBytes (code (a .peak)) (a .src .now) (loop .j) n =
-    c .before .before .convert-block .ensures
-    ∙ span-of-part (code (a .peak)) (a .src .now) (loop .j) n (6 * loop .j) (6 * loop .j + 6 * n - 6 * loop .j) refl (omega arith) in
-    let put =
-    put-pixels (loop .dst) (a .dst .now) front ys (loop .j) n (loop .inv .2) (length-span (code (a .peak)) (a .src .now) 0 (loop .j))
-    ∙ ap (λ (l : List ℕ). (front ++ l) ++ drop (6 * (loop .j + n)) (a .dst .now)) y
-    ∙ sym (ap (λ (l : List ℕ). l ++ drop (6 * (loop .j + n)) (a .dst .now)) (span-further (code (a .peak)) (a .src .now) (loop .j) n)) in
+    let put = block-put (a .peak) (a .src .now) (loop .dst) (a .dst .now) ys (loop .j) n (loop .inv .2) (c .before .before .convert-block .ensures) in
     let same = same-len-mid (6 * loop .j) (6 * loop .j + 6 * n - 6 * loop .j) (loop .dst) ys (c .before .before .convert-block .kept .1 .1 .1 .1 .1 .1 .0) in
     (omega arith, same ∙ loop .inv .1, put)
 

@@ -1,5 +1,4 @@
 -- `span::convert_span` meets its contract: what it lends are the light table and the steps, and w is the position of the peak as read.
-use mathlib.Core.Path.{_∙_}
 use native.Mathlib.Omega.{arith}
 use borrow.Author.Needs.{needs}
 use Rattle.quantity.specs.Units.{units}
@@ -20,8 +19,8 @@ convert-blocks-requires c κs =
 returns-2 : tie.Need-returns-2
 returns-2 c =
     let a = c .before .before .before .before .before .before .before .before .before .before .before .before .before .before .before .before .args in
-    let peak = c .before .before .before .before .before .before .before .before .before .before .before .read-peak .ensures in
-    c .before .before .convert-blocks .ensures ∙ rw peak (begun (a .source) (a .src .now) (a .dst .now) _ (omega arith))
+    let peak = c .before .before .before .before .before .before .before .before .before .before .before .read-peak in
+    begun (a .source) (a .src .now) (a .dst .now) _ (peak .result) (peak .ensures) (omega arith) (c .before .before .convert-blocks .ensures)
 
 pub convert-span-spec : {M : Type 1} → statement M
 convert-span-spec =

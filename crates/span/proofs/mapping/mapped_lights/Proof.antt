@@ -7,7 +7,6 @@ use Rattle.quantity.specs.Units.{thousand, tenThousand}
 use Rattle.quantity.specs.Component.{Component, red, green, blue, Pixel, pixel}
 use Rattle.position.specs.Position.{codeRead, codeLight}
 use Rattle.position.proofs.LightLaws.{lent-code-light}
-use Rattle.eetf.proofs.CurveLaws.{bent-on-light-table}
 use Rattle.pixel.specs.Conversion.{brightestLight, brightestPosition, bent}
 use Rattle.pixel.proofs.PixelLaws.{component-le, brightest-light-at-most, bent-at-most}
 use Rattle.span.proofs.CodesLaws.{brightest-light-is, bent-is, mapped-is, mapped-unbent}
@@ -44,9 +43,8 @@ brightest-position c = c .code-position .ensures ∙ ap (λ (d : ℕ). 1024 * (c
 bent-to : (c : tie.After-bent-light) → c .bent-light .result .0 ≡ bent (start (c .before) .args .peak) (taken (c .before))
 bent-to c =
     let s = start (c .before) in
-    let a = s .args in
-    bent-is (a .peak) (taken (c .before)) (brightest-light (c .before)) (brightest-position (c .before))
-    (c .bent-light .ensures ∙ bent-on-light-table (a .lights .now) (a .peak) (a .w .0) _ _ (s .pre .0) (s .pre .1))
+    bent-is _ (taken (c .before)) (s .args .lights .now) (s .args .w .0) (s .pre .0) (s .pre .1)
+    (brightest-light (c .before)) (brightest-position (c .before)) (c .bent-light .ensures)
 
 returns : tie.Need-returns
 returns c =
