@@ -51,7 +51,8 @@ def refused(crate, edit):
         run = subprocess.run(["rt", "dev", crate], cwd=tree, capture_output=True, text=True, env={**os.environ, "RT_CUT": "0"})
         lines = (run.stdout + run.stderr).replace(str(tree), "").splitlines()
     told = [line for line in lines if re.search(r"error:|not proved|has no `Need", line)]
-    return run.returncode != 0, [line[:300] for line in told[:8]]
+    first = [line for line in told if not re.search(r"was not admitted|which is not proved", line)]  # without what only follows
+    return run.returncode != 0, [line[:300] for line in first[:12]]
 
 
 def main():

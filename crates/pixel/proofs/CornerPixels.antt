@@ -1,4 +1,4 @@
--- The twelve marked pixels, by computation: under a peak above 1,000 the bent light is found by law, all else by the definitions.
+-- The twelve marked pixels and one more, by computation: under a peak above 1,000 the bent light is found by law, all else by the definitions.
 use mathlib.Core.Path.{_≡_, refl, _∙_, ap}
 use Prim.Native.Nat.{ℕ, _*_, _<_}
 use native.Mathlib.Nat.{mul-div-cancel-left}
@@ -46,6 +46,11 @@ colours = (
   record { to-red = refl; to-green = refl; to-blue = refl },
   record { to-red = refl; to-green = refl; to-blue = refl },
 )
+
+-- a colour far above the peak, which no marked pixel is: luminance is weighed after the ratio, and all three keep the brightest one's ratio
+hue-kept : Converts 1000 (pixel 940 512 300) 975 236 108
+unfolding computed
+hue-kept = record { to-red = refl; to-green = refl; to-blue = refl }
 
 -- ---- black, under any peak
 no-light : (c : ℕ) → codeLight c ≡ 0 → brightestLight (pixel c c c) ≡ 0
