@@ -5,7 +5,7 @@ ghost use lib.Dec.{leb};
 ghost use Rattle.laws.specs.Largest.{largest};
 ghost use Rattle.pq.specs.LightTable.{lightTable};
 ghost use Rattle.pq.specs.Pq.{entryIn};
-ghost use Rattle.position.specs.Position.{codeRead, codeLightIn, lightAtIn, codeLight, lightAt, positionOf};
+ghost use Rattle.position.specs.Position.{codeRead, codePosition, codeLightIn, lightAtIn, codeLight, lightAt, positionOf};
 use pq::entry_in;
 use pq::light_table;
 use quantity::DisplayLight;
@@ -89,6 +89,13 @@ pub fn light_of_code_in(table: &[u64; 3505], d: u64) -> DisplayLight
     ensures { λ r. ⌜ r .0 ≡ codeLightIn (entryIn (now (table .entry))) d ⌝ }
 {
     entry_in(table, 4 * (read_code(d) - 64))
+}
+
+// The position of a code as read: 1,024 of them to a code.
+pub fn code_position(d: u64) -> Position
+    ensures { λ r. ⌜ r .0 ≡ codePosition d ⌝ }
+{
+    Position(1024 * (read_code(d) - 64))
 }
 
 // A code as it is read. Narrow range: what lies below black or above full signal is read as that.

@@ -1,6 +1,7 @@
 // The quantities that the engine counts in, each a type of its own so that none is taken for another, and what is declared of a source picture.
 ghost use mathlib.Core.Path.{_≡_};
 ghost use Prim.Native.Nat.{max, min};
+ghost use Rattle.quantity.specs.Component.{pixel, brightest};
 
 // Light of the mastering or delivery display, in 1/16,777,216 cd/m2.
 pub struct DisplayLight(pub u64);
@@ -43,4 +44,11 @@ pub fn larger(a: u64, b: u64) -> u64
         return b;
     }
     a
+}
+
+// maxRGB: the largest of three components.
+pub fn brightest_of(r: u64, g: u64, b: u64) -> u64
+    ensures { λ m. ⌜ m ≡ brightest (pixel r g b) ⌝ }
+{
+    larger(larger(r, g), b)
 }

@@ -1,36 +1,23 @@
 // A pixel's mapped components, by lent tables and the position of the peak.
 ghost use mathlib.Core.Path.{_≡_};
-ghost use Prim.Native.Nat.{max, _*_, _-_, _≤_};
+ghost use Prim.Native.Nat.{_*_, _≤_};
 ghost use Rattle.quantity.specs.Units.{units, thousand, tenThousand};
 ghost use Rattle.quantity.specs.Component.{red, green, blue, pixel};
 ghost use Rattle.pq.specs.LightTable.{lightTable};
-ghost use Rattle.position.specs.Position.{codeRead, positionOf};
+ghost use Rattle.position.specs.Position.{positionOf};
 ghost use Rattle.eetf.specs.Curve.{mappedLight};
 ghost use Rattle.pixel.specs.Conversion.{mapped};
 use crate::hints::factor_hint;
 use eetf::bent_light;
 use eetf::map_component;
+use position::code_position;
 use position::light_of_code_in;
 use position::read_code;
 use quantity::DisplayLight;
 use quantity::Position;
-use quantity::larger;
+use quantity::brightest_of;
 use words::is_quotient;
 use words::upper_word;
-
-// maxRGB.
-fn brightest_of(r: u64, g: u64, b: u64) -> u64
-    ensures { λ m. ⌜ m ≡ max (max r g) b ⌝ }
-{
-    larger(larger(r, g), b)
-}
-
-// The position of a code as read: 1,024 of them to a code.
-fn code_position(d: u64) -> Position
-    ensures { λ m. ⌜ m .0 ≡ 1024 * (codeRead d - 64) ⌝ }
-{
-    Position(1024 * (read_code(d) - 64))
-}
 
 // Three mapped components, in units.
 pub(crate) struct Mapped {
