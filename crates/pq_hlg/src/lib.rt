@@ -14,9 +14,9 @@ use span::convert_span;
 use span::pixel_codes;
 
 // The samples that are taken: the interface keeps the codes below and above for its timing.
-const LEAST: u64 = 4;
+pub const LEAST_SAMPLE: u64 = 4;
 
-const MOST: u64 = 1019;
+pub const MOST_SAMPLE: u64 = 1019;
 
 // The HLG codes of a pixel, or a refusal: its number and its place.
 pub enum PixelAnswer {
@@ -32,13 +32,13 @@ pub fn convert_pixel(source: Source, red: u64, green: u64, blue: u64) -> PixelAn
     if refuses_peak(source.peak) {
         return PixelAnswer::Refused(5, 0);
     }
-    if is_outside(red, LEAST, MOST) {
+    if is_outside(red, LEAST_SAMPLE, MOST_SAMPLE) {
         return PixelAnswer::Refused(9, 0);
     }
-    if is_outside(green, LEAST, MOST) {
+    if is_outside(green, LEAST_SAMPLE, MOST_SAMPLE) {
         return PixelAnswer::Refused(9, 1);
     }
-    if is_outside(blue, LEAST, MOST) {
+    if is_outside(blue, LEAST_SAMPLE, MOST_SAMPLE) {
         return PixelAnswer::Refused(9, 2);
     }
     let codes = pixel_codes(source, red, green, blue);
@@ -93,7 +93,7 @@ fn test_row(source: Source, row: &[u8], bytes: usize, first: usize, end: usize) 
     if refuses_peak(source.peak) {
         return RowAnswer::Refused(5, 0);
     }
-    test_span(row, bytes, first, end, LEAST, MOST)
+    test_span(row, bytes, first, end, LEAST_SAMPLE, MOST_SAMPLE)
 }
 
 // A peak of 0 or above 10,000 cd/m2 is refused.
