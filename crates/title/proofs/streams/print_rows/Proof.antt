@@ -9,11 +9,11 @@ use Rattle.title.proofs.streams.print_rows.Statement.{statement}
 use Rattle.title.proofs.streams.print_rows.Tie as tie
 
 abbrev Inv-loop : tie.InvT-loop
-Inv-loop limit source width row₀ codes₀ text₀ left₀ row codes text left =
+Inv-loop program limit source width row₀ codes₀ text₀ left₀ row codes text left =
     (length row ≡ length row₀) × (length codes ≡ length codes₀) × (length text ≡ length text₀)
 
 abbrev μ-loop : tie.MeasureT-loop
-μ-loop limit source width row₀ codes₀ text₀ left₀ row codes text left = left
+μ-loop program limit source width row₀ codes₀ text₀ left₀ row codes text left = left
 
 slice-aggregate-list-next-row : tie.Need-slice-aggregate-list-next-row Inv-loop μ-loop
 slice-aggregate-list-next-row c = sym (length-take-le _ _ (search needs))

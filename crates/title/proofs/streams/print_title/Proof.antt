@@ -7,10 +7,10 @@ use Rattle.title.proofs.streams.print_title.Statement.{statement}
 use Rattle.title.proofs.streams.print_title.Tie as tie
 
 slice-aggregate-print-rows : tie.Need-slice-aggregate-print-rows
-slice-aggregate-print-rows c = sym (length-take-le (6 * c .before .args .width) _ (search needs))
+slice-aggregate-print-rows c = sym (length-take-le (6 * c .before .before .args .width) _ (search needs))
 
 slice-aggregate-print-rows-2 : tie.Need-slice-aggregate-print-rows-2
-slice-aggregate-print-rows-2 c = sym (length-take-le (6 * c .before .before .args .width) _ (search needs))
+slice-aggregate-print-rows-2 c = sym (length-take-le (6 * c .before .before .before .args .width) _ (search needs))
 
 pub print-title-spec : {M : Type 1} → statement M
 print-title-spec =

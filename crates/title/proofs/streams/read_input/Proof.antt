@@ -9,10 +9,10 @@ use Rattle.title.proofs.streams.read_input.Statement.{statement}
 use Rattle.title.proofs.streams.read_input.Tie as tie
 
 abbrev Inv-loop : tie.InvT-loop
-Inv-loop buffer₀ done₀ buffer done = (done ≤ length buffer) × (length buffer ≡ length buffer₀)
+Inv-loop program buffer₀ done₀ buffer done = (done ≤ length buffer) × (length buffer ≡ length buffer₀)
 
 abbrev μ-loop : tie.MeasureT-loop
-μ-loop buffer₀ done₀ buffer done = length buffer₀ - done
+μ-loop program buffer₀ done₀ buffer done = length buffer₀ - done
 
 loop-holds : tie.Need-loop-holds Inv-loop μ-loop
 loop-holds c = (omega arith, refl)
@@ -21,7 +21,7 @@ same-length : tie.Need-same-length Inv-loop μ-loop
 same-length c =
     let loop = c .before .before .before .before .before .before .loop in
     let read = c .before .before .before .read-some in
-    same-len-mid (loop .done) (length (loop .buffer) - loop .done) (loop .buffer) (read .last .0) (read .kept .0) ∙ loop .inv .1
+    same-len-mid (loop .done) (length (loop .buffer) - loop .done) (loop .buffer) (read .last .1 .0) (read .kept .1 .0) ∙ loop .inv .1
 
 add-done : tie.Need-add-done Inv-loop μ-loop
 add-done c = omega (arith, simp (length-take, length-drop) at (c .before .before .before .read-some .ensures))
@@ -34,7 +34,7 @@ loop-again c =
     let loop = c .before .before .before .before .before .before .loop in
     let more = simp (length-take, length-drop) at (c .before .before .before .read-some .ensures) in
     let read = c .before .before .before .read-some in
-    let kept = same-len-mid (loop .done) (length (loop .buffer) - loop .done) (loop .buffer) (read .last .0) (read .kept .0) in
+    let kept = same-len-mid (loop .done) (length (loop .buffer) - loop .done) (loop .buffer) (read .last .1 .0) (read .kept .1 .0) in
     let same = kept ∙ loop .inv .1 in
     (omega (arith, same), same)
 

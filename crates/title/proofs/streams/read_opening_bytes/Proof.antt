@@ -10,10 +10,10 @@ use Rattle.title.proofs.streams.read_opening_bytes.Statement.{statement
 use Rattle.title.proofs.streams.read_opening_bytes.Tie as tie
 
 abbrev Inv-loop : tie.InvT-loop
-Inv-loop opening₀ got₀ opening got = (got ≤ 7) × (length opening ≡ length opening₀)
+Inv-loop program opening₀ got₀ opening got = (got ≤ 7) × (length opening ≡ length opening₀)
 
 abbrev μ-loop : tie.MeasureT-loop
-μ-loop opening₀ got₀ opening got = 7 - got
+μ-loop program opening₀ got₀ opening got = 7 - got
 
 -- what is asked for has room
 within : (c : tie.After-bytes-asked Inv-loop μ-loop) → c .before .before .loop .got + c .bytes-asked .result ≤ 7
@@ -43,7 +43,7 @@ same-length-2 c =
     let loop = c .before .before .before .before .before .before .before .before .loop in
     let read = c .before .before .before .read-input in
     let asked = c .before .before .before .before .before .before .bytes-asked .result in
-    same-len-mid (loop .got) (loop .got + asked - loop .got) (loop .opening) (read .last .0) (read .kept .0) ∙ loop .inv .1
+    same-len-mid (loop .got) (loop .got + asked - loop .got) (loop .opening) (read .last .1 .0) (read .kept .1 .0) ∙ loop .inv .1
 
 returns-2 : tie.Need-returns-2 Inv-loop μ-loop
 returns-2 c = omega (arith, within (c .before .before .before .before .before .before), came (c .before .before .before))
@@ -56,7 +56,7 @@ loop-again c =
     let loop = c .before .before .before .before .before .before .before .before .loop in
     let read = c .before .before .before .read-input in
     let asked = c .before .before .before .before .before .before .bytes-asked .result in
-    let same = same-len-mid (loop .got) (loop .got + asked - loop .got) (loop .opening) (read .last .0) (read .kept .0) in
+    let same = same-len-mid (loop .got) (loop .got + asked - loop .got) (loop .opening) (read .last .1 .0) (read .kept .1 .0) in
     (omega (arith, within (c .before .before .before .before .before .before), came (c .before .before .before)), same ∙ loop .inv .1)
 
 pub read-opening-bytes-spec : {M : Type 1} → statement M
