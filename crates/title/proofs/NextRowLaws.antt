@@ -21,7 +21,10 @@ use Rattle.listing.proofs.TextLaws.{lines-same}
 use Rattle.title.specs.declared.next_row.NextRow.{NextRow}
 use Rattle.title.specs.declared.next_row.NextRow.the-variants.{Listed, End, Refused as Stop}
 use Rattle.title.specs.declared.next_row.Piece.{Piece}
-use Rattle.title.specs.NextRow.{convertedText, wholeRowAnswer, wholeRowBytes, afterCall, nextRow, pieceText, rowsLeft, NextPiece}
+use Rattle.title.specs.declared.row_bytes.RowBytes.{RowBytes}
+use Rattle.title.specs.Rows.{rowBytes}
+use Rattle.title.specs.NextRow.{convertedText, wholeRowAnswer, wholeRowBytes, afterCall, afterBytes, nextRow, pieceText, rowsLeft, NextPiece}
+use Rattle.title.proofs.RowsLaws.{whole}
 
 -- the text of converted bytes, within a buffer
 pub converted-text : (peak : ℕ) (row : List ℕ) (n room : ℕ)
@@ -49,19 +52,11 @@ pub destination-left : (source : Source) (row codes : List ℕ) {number place : 
 unfolding destinationAfter
 destination-left source row codes h = simp h
 
--- which row it is, by the bytes that came for it
-module _ (source : Source) (width : ℕ) (row : List ℕ) (bytes : ℕ) where
-  pub at-end : length row ≡ 0 → nextRow source width row bytes ≡ End
-  unfolding nextRow
-  at-end h = simp (eq-eqb (length row) 0 h)
-
-  pub cut-short : (length row ≡ 0 → ⊥) → length row < 6 * width → nextRow source width row bytes ≡ Stop 11
-  unfolding nextRow
-  cut-short h l = simp (ne-eqb (length row) 0 h, lt-ltb (length row) (6 * width) l)
-
-  pub whole : (length row ≡ 0 → ⊥) → 6 * width ≤ length row → nextRow source width row bytes ≡ afterCall (wholeRowAnswer source row bytes)
-  unfolding nextRow
-  whole h l = simp (ne-eqb (length row) 0 h, le-ltb (length row) (6 * width) l)
+-- which row it is, by what came for it
+pub next-by : (source : Source) (width : ℕ) (row : List ℕ) (bytes : ℕ) {came : RowBytes} → rowBytes width row ≡ came
+    → nextRow source width row bytes ≡ afterBytes came (wholeRowAnswer source row bytes)
+unfolding nextRow
+next-by source width row bytes h = rw h
 
 after-test : (refused : Bool) (place : ℕ) → afterCall (cond refused (Refused 9 place) Converted) ≡ cond refused (Stop 9) Listed
 after-test true place = refl
@@ -82,7 +77,7 @@ only-nine source width row p q v w l =
     let end = le-ltb width width (omega arith) in
     let all : width - 0 ≡ width = omega arith in
     let i = firstRefused sampleRefused row 0 (3 * width) in
-    whole source width row (length row) (omega arith) (omega arith)
+    next-by source width row (length row) (whole width row (omega arith) (omega arith))
     ∙ simp (pixels, some, most, sixes, short, same, first, end, all) (after-test (ltb i (3 * width)) i)
 
 -- the piece of text that a converted row gives

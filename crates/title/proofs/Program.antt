@@ -18,10 +18,14 @@ use Rattle.title.specs.declared.opening.Opening.the-variants as opening
 use Rattle.title.specs.declared.next_row.NextRow.{NextRow}
 use Rattle.title.specs.declared.next_row.NextRow.the-variants.{Listed, Refused, End}
 use Rattle.title.specs.Opening.{openingAnswer, rowsOf, bytesAsked}
+use Rattle.title.specs.declared.row_bytes.RowBytes.{RowBytes}
+use Rattle.title.specs.declared.row_bytes.RowBytes.the-variants as came
+use Rattle.title.specs.Rows.{rowBytes}
 use Rattle.title.specs.NextRow.{convertedText, nextRow, pieceText, rowsLeft}
 use Rattle.title.specs.Title.{withRow, rowsText, textAfter, titleText}
 use Rattle.title.proofs.OpeningLaws.{asked-within, has-rows, Tight, opening-settled, tight-on, rows-after, no-rows}
-use Rattle.title.proofs.NextRowLaws.{at-end, cut-short}
+use Rattle.title.proofs.RowsLaws.{whole-length}
+use Rattle.title.proofs.NextRowLaws.{next-by}
 
 -- the bytes read so far and those that are not
 pub record Input : Type 0 where
@@ -125,20 +129,15 @@ no-rows-left (suc turns) source width rest = refl
 -- a whole row fills the part of the codes' buffer that is lent for it
 same-next : (source : Source) (width : ℕ) (rest : List ℕ)
     → nextRow source width (take (6 * width) rest) (length (take (6 * width) rest)) ≡ nextRow source width (take (6 * width) rest) (6 * width)
-same-next source width rest = go (decLt (length row) (6 * width))
+same-next source width rest = go (rowBytes width row) refl
   where
     row : List ℕ
     row = take (6 * width) rest
 
-    short : length row < 6 * width → Dec (0 < length row) → nextRow source width row (length row) ≡ nextRow source width row (6 * width)
-    short l (yes s) = cut-short source width row (length row) (omega arith) l ∙ sym (cut-short source width row (6 * width) (omega arith) l)
-    short l (no s) = at-end source width row (length row) (omega arith) ∙ sym (at-end source width row (6 * width) (omega arith))
-
-    go : Dec (length row < 6 * width) → nextRow source width row (length row) ≡ nextRow source width row (6 * width)
-    go (yes l) = short l (decLt 0 (length row))
-    go (no l) =
-        let e : length row ≡ 6 * width = omega (arith, length-take (6 * width) rest) in
-        ap (nextRow source width row) e
+    go : (b : RowBytes) → rowBytes width row ≡ b → nextRow source width row (length row) ≡ nextRow source width row (6 * width)
+    go came.Whole e = ap (nextRow source width row) (whole-length width rest e)
+    go (came.Refused number) e = next-by source width row (length row) e ∙ sym (next-by source width row (6 * width) e)
+    go came.End e = next-by source width row (length row) e ∙ sym (next-by source width row (6 * width) e)
 
 -- Piece by piece the rows' text is printed.
 pub rows-printed : (turns : ℕ) (source : Source) (width left : ℕ) (rest : List ℕ) → left ≤ turns → width ≤ 8192

@@ -1,3 +1,4 @@
 pub mod Opening
+pub mod Rows
 pub mod NextRow
 pub mod Title

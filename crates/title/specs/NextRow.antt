@@ -5,7 +5,7 @@ use mathlib.Core.Bool.{cond}
 use mathlib.Core.List.{List, []}
 use mathlib.Core.Path.{_≡_}
 use lib.ListN.{length}
-use lib.Dec.{ltb, leb, eqb}
+use lib.Dec.{leb}
 use Rattle.quantity.specs.declared.Source.{Source}
 use Rattle.pixel.specs.Conversion.{code}
 use Rattle.rows.specs.declared.RowAnswer.{RowAnswer}
@@ -13,6 +13,9 @@ use Rattle.rows.specs.declared.RowAnswer.the-variants as row-call
 use Rattle.rows.specs.Row.{pixelAt, spanBytes}
 use Rattle.pq_hlg.specs.Row.{rowAnswer}
 use Rattle.listing.specs.Text.{lines, refusalLineWithin, opened}
+use Rattle.title.specs.Rows.{rowBytes}
+use Rattle.title.specs.declared.row_bytes.RowBytes.{RowBytes}
+use Rattle.title.specs.declared.row_bytes.RowBytes.the-variants as came
 use Rattle.title.specs.declared.next_row.NextRow.{NextRow}
 use Rattle.title.specs.declared.next_row.NextRow.the-variants.{Listed, Refused, End}
 use Rattle.title.specs.declared.next_row.Piece.{Piece}
@@ -32,13 +35,15 @@ abbrev pub afterCall : RowAnswer → NextRow
 afterCall row-call.Converted = Listed
 afterCall (row-call.Refused number place) = Refused number
 
--- scope, What stops a call: no byte means that the title has ended, fewer than the row's mean refusal 11; then the row call decides, of whose
--- refusals a title can only meet 9 (`only-nine`)
+-- what the bytes that came for a row make of it, and of a whole one what the row call answers
+abbrev pub afterBytes : RowBytes → RowAnswer → NextRow
+afterBytes came.Whole answer = afterCall answer
+afterBytes (came.Refused number) answer = Refused number
+afterBytes came.End answer = End
+
+-- scope, What stops a call: the title's end, else refusal 11; then the row call decides, of whose refusals a title can only meet 9 (`only-nine`)
 unfoldable pub nextRow : Source → ℕ → List ℕ → ℕ → NextRow
-nextRow source width row bytes =
-    cond (eqb (length row) 0) End
-    (cond (ltb (length row) (6 * width)) (Refused 11)
-    (afterCall (wholeRowAnswer source row bytes)))
+nextRow source width row bytes = afterBytes (rowBytes width row) (wholeRowAnswer source row bytes)
 
 -- the codes' buffer afterwards
 abbrev pub codesAfter : NextRow → Source → List ℕ → List ℕ → List ℕ

@@ -3,6 +3,8 @@ ghost use mathlib.Core.Path.{_≡_};
 ghost use Prim.Native.Nat.{_-_};
 ghost use lib.ListN.{length};
 ghost use Rattle.title.specs.NextRow.{nextRow, codesAfter, NextPiece};
+use crate::row_bytes::RowBytes;
+use crate::row_bytes::test_row_bytes;
 use listing::list_refusal;
 use listing::list_row;
 use pq_hlg::convert_row;
@@ -53,23 +55,24 @@ pub fn list_next_row(
     }
 }
 
-// What the bytes that were read of a row are, and their codes. Refuses 11 before what the row call refuses; a refusal, or the end, leaves the buffer
+// What the bytes that came for a row make of it, and its codes. Refuses 11 before what the row call refuses; a refusal, or the end, leaves the buffer
 // as it was.
 fn convert_next_row(source: Source, width: usize, row: &[u8], codes: &mut [u8]) -> NextRow
     ensures { λ r. ⌜ (r ≡ nextRow source width (now (row .entry)) (length (now (codes .entry))))
         × (now (codes .exit)
         ≡ codesAfter (nextRow source width (now (row .entry)) (length (now (codes .entry)))) source (now (row .entry)) (now (codes .entry))) ⌝ }
 {
-    if row.len() == 0 {
-        return NextRow::End;
-    }
-    if row.len() / 6 < width {
-        return NextRow::Refused(11);
-    }
-    let answer = convert_row(source, row, codes, 0, row.len() / 6);
-    match answer {
-        RowAnswer::Converted => NextRow::Listed,
-        RowAnswer::Refused(number, _) => NextRow::Refused(number),
+    let came = test_row_bytes(width, row);
+    match came {
+        RowBytes::Whole => {
+            let answer = convert_row(source, row, codes, 0, row.len() / 6);
+            match answer {
+                RowAnswer::Converted => NextRow::Listed,
+                RowAnswer::Refused(number, _) => NextRow::Refused(number),
+            }
+        }
+        RowBytes::Refused(number) => NextRow::Refused(number),
+        RowBytes::End => NextRow::End,
     }
 }
 
