@@ -20,11 +20,11 @@ use Rattle.title.specs.declared.next_row.NextRow.the-variants.{Listed, R
 use Rattle.title.specs.Opening.{openingAnswer, rowsOf, bytesAsked}
 use Rattle.title.specs.declared.row_bytes.RowBytes.{RowBytes}
 use Rattle.title.specs.declared.row_bytes.RowBytes.the-variants as came
-use Rattle.title.specs.Rows.{rowBytes}
+use Rattle.title.specs.Rows.{rowBytes, titleRows}
 use Rattle.title.specs.NextRow.{convertedText, nextRow, pieceText, rowsLeft}
 use Rattle.title.specs.Title.{withRow, rowsText, textAfter, titleText}
 use Rattle.title.proofs.OpeningLaws.{asked-within, has-rows, Tight, opening-settled, tight-on, rows-after, no-rows}
-use Rattle.title.proofs.RowsLaws.{whole-length}
+use Rattle.title.proofs.RowsLaws.{at-end, whole-length, no-row, one-row}
 use Rattle.title.proofs.NextRowLaws.{next-by}
 
 -- the bytes read so far and those that are not
@@ -141,13 +141,13 @@ same-next source width rest = go (rowBytes width row) refl
 
 -- Piece by piece the rows' text is printed.
 pub rows-printed : (turns : ℕ) (source : Source) (width left : ℕ) (rest : List ℕ) → left ≤ turns → width ≤ 8192
-    → printRows turns source width left rest ≡ rowsText source width left rest
-unfolding printRows rowsText refusalLineWithin
+    → printRows turns source width left rest ≡ rowsText source width (titleRows width left rest)
+unfolding printRows rowsText refusalLineWithin titleRows
 rows-printed turns source width zero rest h w = no-rows-left turns source width rest
 rows-printed zero source width (suc left) rest h w = absurd (omega arith)
 rows-printed (suc turns) source width (suc left) rest h w =
-    simp (ne-eqb (suc left) 0 (omega arith), same-next source width rest)
-    (go (nextRow source width row (6 * width)) (rows-printed turns source width left (drop (6 * width) rest) (omega arith) w))
+    rw (ne-eqb (suc left) 0 (omega arith))
+    (by-length (decLt 0 (length row)) (rows-printed turns source width left (drop (6 * width) rest) (omega arith) w))
   where
     row : List ℕ
     row = take (6 * width) rest
@@ -155,15 +155,25 @@ rows-printed (suc turns) source width (suc left) rest h w =
     later : List ℕ
     later = drop (6 * width) rest
 
-    go : (next : NextRow) → printRows turns source width left later ≡ rowsText source width left later
+    go : (next : NextRow) → printRows turns source width left later ≡ rowsText source width (titleRows width left later)
         → pieceText next source row 147456 ++ printRows turns source width (rowsLeft next (suc left)) later
-        ≡ withRow next (convertedText source row) (rowsText source width left later)
+        ≡ withRow next (convertedText source row) (rowsText source width (titleRows width left later))
     go Listed again =
         let fits : 18 * (length row / 6) ≤ 147456 = omega (arith, length-take (6 * width) rest) in
         let one : suc left - 1 ≡ left = omega arith in
         rw (le-leb (18 * (length row / 6)) 147456 fits, one, again)
     go (Refused number) again = rw (no-rows-left turns source width later, append-nil)
     go End again = no-rows-left turns source width later
+
+    by-length : Dec (0 < length row) → printRows turns source width left later ≡ rowsText source width (titleRows width left later)
+        → pieceText (nextRow source width row (6 * width)) source row 147456
+        ++ printRows turns source width (rowsLeft (nextRow source width row (6 * width)) (suc left)) later
+        ≡ rowsText source width (titleRows width (suc left) rest)
+    by-length (yes s) again =
+        rw (one-row width left rest (omega arith), same-next source width rest) (go (nextRow source width row (6 * width)) again)
+    by-length (no s) again =
+        let none : length row ≡ 0 = omega arith in
+        rw (next-by source width row (6 * width) (at-end width row none), no-row width left rest none) (no-rows-left turns source width later)
 
 -- The program prints the title's text, whatever the title's bytes and the limit.
 pub program-text : (limit : ℕ) (title : List ℕ) → programText limit title ≡ titleText limit title
@@ -178,5 +188,6 @@ program-text limit title = rw (read .answer) (go (openingAnswer title) refl)
 
     go : (answer : Opening) → openingAnswer title ≡ answer → printTitle answer limit rest ≡ textAfter answer limit (rowsOf title)
     go (opening.Rows source width) e =
-        rows-printed limit source width limit rest (omega arith) (has-rows title e .2) ∙ ap (rowsText source width limit) (sym (read .rows source width e))
+        rows-printed limit source width limit rest (omega arith) (has-rows title e .2)
+        ∙ ap (λ (bytes : List ℕ). rowsText source width (titleRows width limit bytes)) (sym (read .rows source width e))
     go (opening.Refused number) e = refl

@@ -1,13 +1,13 @@
--- Laws of a title's rows, from their definitions: what the bytes that came for a row are.
-use Prim.Native.Nat.{ℕ, _*_, _≤_, _<_}
-use mathlib.Core.List.{List}
+-- Laws of a title's rows, from their definitions: what the bytes that came for a row are, and the rows one by one.
+use Prim.Native.Nat.{ℕ, suc, _*_, _≤_, _<_}
+use mathlib.Core.List.{List, [], _∷_}
 use mathlib.Core.Path.{_≡_, sym, _∙_}
 use native.Mathlib.Decide.{decLt}
 use native.Mathlib.Omega.{arith}
-use lib.ListN.{length, take, length-take}
+use lib.ListN.{length, take, drop, length-take}
 use borrow.Author.Tests.{eq-eqb, ne-eqb, lt-ltb, le-ltb}
 use Rattle.title.specs.declared.row_bytes.RowBytes.the-variants.{Whole, Refused, End}
-use Rattle.title.specs.Rows.{rowBytes}
+use Rattle.title.specs.Rows.{rowBytes, titleRows}
 
 -- what came for a row, by its length
 module _ (width : ℕ) (row : List ℕ) where
@@ -34,3 +34,16 @@ whole-length width bytes h = go (decLt (length row) (6 * width)) (decLt 0 (lengt
     go (no l) s = omega (arith, length-take (6 * width) bytes)
     go (yes l) (yes s) = let g = sym h ∙ cut-short width row (omega arith) l in let z : _≡_ {A = ℕ} 0 1 = cc in absurd (omega arith)
     go (yes l) (no s) = let g = sym h ∙ at-end width row (omega arith) in let z : _≡_ {A = ℕ} 0 1 = cc in absurd (omega arith)
+
+-- A title's next row: no byte came for it, or it is the first of the rows.
+module _ (width limit : ℕ) (bytes : List ℕ) where
+  abbrev row : List ℕ
+  row = take (6 * width) bytes
+
+  pub no-row : length row ≡ 0 → titleRows width (suc limit) bytes ≡ []
+  unfolding titleRows
+  no-row h = simp (eq-eqb (length row) 0 h)
+
+  pub one-row : (length row ≡ 0 → ⊥) → titleRows width (suc limit) bytes ≡ row ∷ titleRows width limit (drop (6 * width) bytes)
+  unfolding titleRows
+  one-row h = simp (ne-eqb (length row) 0 h)
