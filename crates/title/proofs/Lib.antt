@@ -1,4 +1,5 @@
 pub mod OpeningLaws
 pub mod RowsLaws
+pub mod ReadingLaws
 pub mod NextRowLaws
 pub mod Program
