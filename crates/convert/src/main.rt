@@ -1,5 +1,5 @@
 // A PQ title on standard input, its HLG codes on standard output.
-use title::convert_title;
+use converted_title::convert_title;
 
 fn main() {
     // the most rows that a title has

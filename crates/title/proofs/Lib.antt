@@ -1,5 +1,3 @@
 pub mod OpeningLaws
 pub mod RowsLaws
 pub mod ReadingLaws
-pub mod NextRowLaws
-pub mod Program

@@ -1,4 +1,2 @@
 pub mod Opening
 pub mod Rows
-pub mod NextRow
-pub mod Title

@@ -1,7 +1,4 @@
-// A title from its first byte to its last: the opening, then rows, each converted and listed.
-pub mod next_row;
+// The reading of a title: how it opens, what came for each of its rows, and the streams that a program reads and prints by.
 pub mod opening;
 pub mod row_bytes;
-mod streams;
-
-pub use streams::convert_title;
+pub mod streams;

@@ -1,5 +1,5 @@
 // The row limit at two rows: what follows the second is neither converted nor refused.
-use title::convert_title;
+use converted_title::convert_title;
 
 fn main() {
     convert_title(2);

@@ -5,13 +5,13 @@ use mathlib.Core.List.{List, [], _∷_, _++_}
 use lib.ListN.{length}
 use Rattle.quantity.specs.declared.Source.{Source}
 use Rattle.listing.specs.Text.{refusalLine}
 use Rattle.title.specs.declared.opening.Opening.{Opening}
 use Rattle.title.specs.declared.opening.Opening.the-variants as opening
-use Rattle.title.specs.declared.next_row.NextRow.{NextRow}
-use Rattle.title.specs.declared.next_row.NextRow.the-variants.{Listed, Refused, End}
 use Rattle.title.specs.Opening.{openingAnswer, rowsOf}
 use Rattle.title.specs.Rows.{titleRows}
-use Rattle.title.specs.NextRow.{convertedText, nextRow}
+use Rattle.converted_title.specs.declared.next_row.NextRow.{NextRow}
+use Rattle.converted_title.specs.declared.next_row.NextRow.the-variants.{Listed, Refused, End}
+use Rattle.converted_title.specs.NextRow.{convertedText, nextRow}
 
 -- what a row adds to a text that its own lines and those of the later rows would make: a refused row adds its refusal as the last line (none of a
 -- title's rows is its end)

@@ -2,10 +2,10 @@
 use mathlib.Core.Path.{sym, ap, _∙_}
 use lib.ListN.{length}
 use borrow.Author.Needs.{needs}
-use Rattle.title.specs.NextRow.{afterCall}
-use Rattle.title.proofs.NextRowLaws.{whole-destination, destination-left, next-by}
-use Rattle.title.proofs.next_row.convert_next_row.Statement.{statement}
-use Rattle.title.proofs.next_row.convert_next_row.Tie as tie
+use Rattle.converted_title.specs.NextRow.{afterCall}
+use Rattle.converted_title.proofs.NextRowLaws.{whole-destination, destination-left, next-by}
+use Rattle.converted_title.proofs.next_row.convert_next_row.Statement.{statement}
+use Rattle.converted_title.proofs.next_row.convert_next_row.Tie as tie
 
 returns : tie.Need-returns
 returns c =

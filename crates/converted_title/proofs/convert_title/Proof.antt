@@ -1,9 +1,9 @@
 -- The width that a title declares is one that the buffers hold.
 use mathlib.Core.Path.{sym, _∙_}
 use borrow.Author.Needs.{needs}
 use Rattle.title.proofs.OpeningLaws.{has-rows}
-use Rattle.title.proofs.streams.convert_title.Statement.{statement}
-use Rattle.title.proofs.streams.convert_title.Tie as tie
+use Rattle.converted_title.proofs.convert_title.Statement.{statement}
+use Rattle.converted_title.proofs.convert_title.Tie as tie
 
 print-title-requires : tie.Need-print-title-requires
 print-title-requires c κs =

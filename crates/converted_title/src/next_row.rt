@@ -2,14 +2,14 @@
 ghost use mathlib.Core.Path.{_≡_};
 ghost use Prim.Native.Nat.{_-_};
 ghost use lib.ListN.{length};
-ghost use Rattle.title.specs.NextRow.{nextRow, codesAfter, NextPiece};
-use crate::row_bytes::RowBytes;
-use crate::row_bytes::test_row_bytes;
+ghost use Rattle.converted_title.specs.NextRow.{nextRow, codesAfter, NextPiece};
 use listing::list_refusal;
 use listing::list_row;
 use pq_hlg::convert_row;
 use quantity::Source;
 use rows::RowAnswer;
+use title::row_bytes::RowBytes;
+use title::row_bytes::test_row_bytes;
 
 pub enum NextRow {
     // a whole row, all of whose samples are taken

@@ -1,9 +1,9 @@
 -- The piece of text that each kind of row gives.
 use mathlib.Core.Path.{sym, _∙_, refl}
 use borrow.Author.Needs.{needs}
-use Rattle.title.proofs.NextRowLaws.{listed}
-use Rattle.title.proofs.next_row.list_next_row.Statement.{statement}
-use Rattle.title.proofs.next_row.list_next_row.Tie as tie
+use Rattle.converted_title.proofs.NextRowLaws.{listed}
+use Rattle.converted_title.proofs.next_row.list_next_row.Statement.{statement}
+use Rattle.converted_title.proofs.next_row.list_next_row.Tie as tie
 
 returns : tie.Need-returns
 returns c =

@@ -1,12 +1,12 @@
 -- Laws of the next row, from its definitions and those of the row call: the bytes of a converted row are its pixels' codes, and its text theirs.
-use mathlib.Core.Path.{_≡_, refl, sym, ap, _∙_}
+use mathlib.Core.Path.{_≡_, refl, ap, _∙_}
 use mathlib.Core.Bool.{Bool, true, false, cond}
 use mathlib.Core.List.{List, [], append-nil}
 use Prim.Native.Nat.{ℕ, _*_, _/_, _%_, _-_, _≤_, _<_}
 use native.Mathlib.Omega.{arith}
 use lib.Dec.{leb, ltb}
 use lib.ListN.{length, drop-of-length-le, length-append, length-drop}
-use borrow.Author.Tests.{eq-eqb, ne-eqb, lt-ltb, le-ltb}
+use borrow.Author.Tests.{eq-eqb, ne-eqb, le-ltb}
 use Rattle.quantity.specs.declared.Source.{Source}
 use Rattle.pixel.specs.Conversion.{code}
 use Rattle.rows.specs.declared.RowAnswer.the-variants.{Converted, Refused}
@@ -18,13 +18,13 @@ use Rattle.pq_hlg.specs.Row.{rowAnswer, destinationAfter}
 use Rattle.pq_hlg.proofs.TestLaws.{row-accepted}
 use Rattle.listing.specs.Text.{lines, rowText, rowTextWithin, opened}
 use Rattle.listing.proofs.TextLaws.{lines-same}
-use Rattle.title.specs.declared.next_row.NextRow.{NextRow}
-use Rattle.title.specs.declared.next_row.NextRow.the-variants.{Listed, End, Refused as Stop}
-use Rattle.title.specs.declared.next_row.Piece.{Piece}
 use Rattle.title.specs.declared.row_bytes.RowBytes.{RowBytes}
 use Rattle.title.specs.Rows.{rowBytes}
-use Rattle.title.specs.NextRow.{convertedText, wholeRowAnswer, wholeRowBytes, afterCall, afterBytes, nextRow, pieceText, rowsLeft, NextPiece}
 use Rattle.title.proofs.RowsLaws.{whole}
+use Rattle.converted_title.specs.declared.next_row.NextRow.{NextRow}
+use Rattle.converted_title.specs.declared.next_row.NextRow.the-variants.{Listed, End, Refused as Stop}
+use Rattle.converted_title.specs.declared.next_row.Piece.{Piece}
+use Rattle.converted_title.specs.NextRow.{convertedText, wholeRowAnswer, wholeRowBytes, afterCall, afterBytes, nextRow, rowsLeft, NextPiece}
 
 -- the text of converted bytes, within a buffer
 pub converted-text : (peak : ℕ) (row : List ℕ) (n room : ℕ)

@@ -3,8 +3,8 @@ use mathlib.Core.Path.{sym}
 use Prim.Native.Nat.{_*_}
 use lib.Seq.{length-take-le}
 use borrow.Author.Needs.{needs}
-use Rattle.title.proofs.streams.print_title.Statement.{statement}
-use Rattle.title.proofs.streams.print_title.Tie as tie
+use Rattle.converted_title.proofs.print_title.Statement.{statement}
+use Rattle.converted_title.proofs.print_title.Tie as tie
 
 slice-aggregate-print-rows : tie.Need-slice-aggregate-print-rows
 slice-aggregate-print-rows c = sym (length-take-le (6 * c .before .before .args .width) _ (search needs))

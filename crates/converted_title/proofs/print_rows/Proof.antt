@@ -1,12 +1,11 @@
 -- Each piece lies within the text buffer and leaves fewer rows. The measure is the rows that are still to be read.
 use mathlib.Core.Path.{_≡_, sym}
-use Prim.Native.Nat.{_≤_}
 use lib.ListN.{length}
 use lib.Seq.{length-take-le}
 use borrow.Author.Needs.{needs}
-use Rattle.title.proofs.NextRowLaws.{piece-fits, fewer-left}
-use Rattle.title.proofs.streams.print_rows.Statement.{statement}
-use Rattle.title.proofs.streams.print_rows.Tie as tie
+use Rattle.converted_title.proofs.NextRowLaws.{piece-fits, fewer-left}
+use Rattle.converted_title.proofs.print_rows.Statement.{statement}
+use Rattle.converted_title.proofs.print_rows.Tie as tie
 
 abbrev Inv-loop : tie.InvT-loop
 Inv-loop program limit source width row₀ codes₀ text₀ left₀ row codes text left =

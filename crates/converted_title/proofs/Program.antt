@@ -1,4 +1,4 @@
--- The program over lists, as `streams` has it, and that it prints a title's text. A read of n bytes gives the next n, or as many as there are; each
+-- The program over lists, as `convert_title` has it, and that it prints a title's text. A read of n bytes gives the next n, or as many as there are; each
 -- call of a function on slices stands as the definition that its contract promises. What is printed is one list.
 use Prim.Native.Nat.{ℕ, zero, suc, _*_, _/_, _-_, _≤_, _<_}
 use mathlib.Core.Bool.{cond}
@@ -10,21 +10,21 @@ use lib.Dec.{eqb}
 use lib.ListN.{length, take, drop, length-take}
 use borrow.Author.Tests.{ne-eqb, le-leb}
 use Rattle.quantity.specs.declared.Source.{Source}
-use Rattle.listing.specs.Text.{refusalLine, refusalLineWithin}
+use Rattle.listing.specs.Text.{refusalLineWithin}
 use Rattle.title.specs.declared.opening.Opening.{Opening}
 use Rattle.title.specs.declared.opening.Opening.the-variants as opening
 use Rattle.title.specs.declared.row_bytes.RowBytes.{RowBytes}
 use Rattle.title.specs.declared.row_bytes.RowBytes.the-variants as came
-use Rattle.title.specs.declared.next_row.NextRow.{NextRow}
-use Rattle.title.specs.declared.next_row.NextRow.the-variants.{Listed, Refused, End}
 use Rattle.title.specs.Opening.{openingAnswer, rowsOf}
 use Rattle.title.specs.Rows.{rowBytes, titleRows}
-use Rattle.title.specs.NextRow.{convertedText, nextRow, pieceText, rowsLeft}
-use Rattle.title.specs.Title.{withRow, rowsText, textAfter, titleText}
 use Rattle.title.proofs.OpeningLaws.{has-rows}
 use Rattle.title.proofs.RowsLaws.{at-end, whole-length, no-row, one-row}
 use Rattle.title.proofs.ReadingLaws.{readOpening, Opened, opening-read}
-use Rattle.title.proofs.NextRowLaws.{next-by}
+use Rattle.converted_title.specs.declared.next_row.NextRow.{NextRow}
+use Rattle.converted_title.specs.declared.next_row.NextRow.the-variants.{Listed, Refused, End}
+use Rattle.converted_title.specs.NextRow.{convertedText, nextRow, pieceText, rowsLeft}
+use Rattle.converted_title.specs.Title.{withRow, rowsText, textAfter, titleText}
+use Rattle.converted_title.proofs.NextRowLaws.{next-by}
 
 -- `print_rows`, of so many turns, with the buffers of `print_title`
 unfoldable pub printRows : ℕ → Source → ℕ → ℕ → List ℕ → List ℕ

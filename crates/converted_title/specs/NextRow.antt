@@ -13,12 +13,12 @@ use Rattle.rows.specs.declared.RowAnswer.the-variants as row-call
 use Rattle.rows.specs.Row.{pixelAt, spanBytes}
 use Rattle.pq_hlg.specs.Row.{rowAnswer}
 use Rattle.listing.specs.Text.{lines, refusalLineWithin, opened}
 use Rattle.title.specs.Rows.{rowBytes}
 use Rattle.title.specs.declared.row_bytes.RowBytes.{RowBytes}
 use Rattle.title.specs.declared.row_bytes.RowBytes.the-variants as came
-use Rattle.title.specs.declared.next_row.NextRow.{NextRow}
-use Rattle.title.specs.declared.next_row.NextRow.the-variants.{Listed, Refused, End}
-use Rattle.title.specs.declared.next_row.Piece.{Piece}
+use Rattle.converted_title.specs.declared.next_row.NextRow.{NextRow}
+use Rattle.converted_title.specs.declared.next_row.NextRow.the-variants.{Listed, Refused, End}
+use Rattle.converted_title.specs.declared.next_row.Piece.{Piece}
 
 -- scope, program: a line for each pixel of a row, of its HLG codes
 unfoldable pub convertedText : Source → List ℕ → List ℕ
