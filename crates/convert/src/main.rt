@@ -1,7 +1,7 @@
 // A PQ title on standard input, its HLG codes on standard output.
 use converted_title::convert_title;
+use title::MOST_ROWS;
 
 fn main() {
-    // the most rows that a title has
-    convert_title(4294967295);
+    convert_title(MOST_ROWS);
 }

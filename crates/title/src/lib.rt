@@ -2,3 +2,6 @@
 pub mod opening;
 pub mod row_bytes;
 pub mod streams;
+
+// The most rows of a title that a program reads.
+pub const MOST_ROWS: u64 = 4294967295;
