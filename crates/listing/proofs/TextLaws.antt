@@ -73,6 +73,11 @@ pub line-short : (r g b : ℕ) → r < 65536 → g < 65536 → b < 65536 → len
 line-short r g b hr hg hb =
     omega (arith, length-line r g b, length-decimal 4 r (omega arith), length-decimal 4 g (omega arith), length-decimal 4 b (omega arith))
 
+-- a line of three 64-bit numbers
+pub line-within : (r g b : ℕ) → r < 2 ^ 64 → g < 2 ^ 64 → b < 2 ^ 64 → length (line (pixel r g b)) ≤ 63
+line-within r g b hr hg hb =
+    omega (arith, length-line r g b, length-decimal 19 r (omega arith), length-decimal 19 g (omega arith), length-decimal 19 b (omega arith))
+
 -- the line of a 64-bit refusal has at most 29 characters
 pub refusal-short : (n : ℕ) → n < 2 ^ 64 → length (refusalLine n) ≤ 29
 unfolding refusalLine

@@ -56,6 +56,10 @@ unfoldable pub rowTextWithin : List ℕ → ℕ → List ℕ
 rowTextWithin codes room =
     cond (eqb (length codes % 6) 0 && leb (18 * (length codes / 6)) room) (rowText codes) []
 
+-- the line of three numbers for a buffer of so many bytes; none in fewer than the 63 that three of the longest 64-bit numbers take
+unfoldable pub lineWithin : Pixel → ℕ → List ℕ
+lineWithin p room = cond (leb 63 room) (line p) []
+
 -- the refusal's line for a buffer of so many bytes; none in fewer than the 29 that the longest 64-bit number takes
 unfoldable pub refusalLineWithin : ℕ → ℕ → List ℕ
 refusalLineWithin number room = cond (leb 29 room) (refusalLine number) []

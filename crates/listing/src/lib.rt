@@ -1,11 +1,11 @@
-// What the program prints: a line for each pixel of a converted row, its three codes in decimal, or the line of a refusal.
+// What the programs print: a line for each pixel of a converted row, its three codes in decimal; a line of three numbers; the line of a refusal.
 ghost use mathlib.Core.Path.{_≡_};
 ghost use Prim.Native.Nat.{_+_, _*_, _≤_, _<_};
 ghost use mathlib.Core.List.{[], _∷_, _++_};
 ghost use lib.ListN.{length};
 ghost use Rattle.quantity.specs.Component.{pixel};
 ghost use Rattle.rows.specs.Row.{pixelAt};
-ghost use Rattle.listing.specs.Text.{decimal, line, lines, rowTextWithin, refusedWord, refusalLineWithin, Stored, opened};
+ghost use Rattle.listing.specs.Text.{decimal, line, lines, rowTextWithin, lineWithin, refusedWord, refusalLineWithin, Stored, opened};
 use rows::sample_at;
 
 // One character at a place of the text; the place after it.
@@ -87,6 +87,18 @@ pub fn list_row(codes: &[u8], text: &mut [u8]) -> usize
         return 0;
     }
     put_lines(codes, text, pixels)
+}
+
+// The line of three numbers at the start of a buffer; its length. The buffer needs 63 bytes, room for every three: where it has fewer, nothing is
+// written.
+pub fn list_line(first: u64, second: u64, third: u64, text: &mut [u8]) -> usize
+    ensures { λ r. ⌜ (r ≡ length (lineWithin (pixel first second third) (length (now (text .entry)))))
+        × (now (text .exit) ≡ opened (lineWithin (pixel first second third) (length (now (text .entry)))) (now (text .entry))) ⌝ }
+{
+    if text.len() < 63 {
+        return 0;
+    }
+    put_line(text, 0, first, second, third)
 }
 
 // `refused` and a space at the start of the text; the place after them.
