@@ -1,0 +1,4 @@
+pub mod OutshinesLaws
+pub mod BoundLaws
+pub mod RecordLaws
+pub mod AnswerLaws

@@ -1,0 +1,141 @@
+-- Laws of a record with more pixels: what stays, how a row goes in that no pixel of which takes over, and what its numbers are as 64-bit ones.
+use mathlib.Core.Path.{_≡_, refl, sym, ap, _∙_}
+use mathlib.Core.Bool.{Bool, true, false, cond, _||_}
+use mathlib.Core.List.{List}
+use Prim.Native.Nat.{ℕ, zero, suc, max, min, _+_, _*_, _≤_, _<_}
+use native.Mathlib.Numerals.{add-one}
+use native.Mathlib.Omega.{arith}
+use lib.Dec.{eqb}
+use borrow.Author.Tests.{eqb-false, eq-eqb, ne-eqb}
+use Rattle.quantity.specs.Units.{lastPosition}
+use Rattle.quantity.specs.Component.{brightest}
+use Rattle.position.specs.Position.{codePosition, lightAt}
+use Rattle.position.proofs.LightLaws.{light-grows, code-position-grows}
+use Rattle.pixel.specs.Conversion.{brightestPosition}
+use Rattle.rows.specs.Row.{pixelAt}
+use Rattle.rows.proofs.AnswerLaws.{neither}
+use Rattle.content_light.specs.declared.RunRecord.{RunRecord}
+use Rattle.content_light.specs.declared.PeakAnswer.the-variants.{Peak, Refused}
+use Rattle.content_light.specs.Peak.{mostRows, outshines, roundedUp, peakOf}
+use Rattle.content_light.specs.Run.{mostPixels, recordRead, takesOver, withPixel, withPixels, held, peakAnswer}
+use Rattle.content_light.specs.Bounds.{Bounded, OfCode}
+use Rattle.content_light.proofs.OutshinesLaws.{dimmer}
+use Rattle.content_light.proofs.BoundLaws.{brightest-bounded}
+
+pub most-rows : mostRows ≡ 4294967295
+unfolding mostRows
+most-rows = refl
+
+pub most-pixels : mostPixels ≡ 35184372080640
+unfolding mostPixels mostRows
+most-pixels = refl
+
+-- the position of a pixel's brightest code
+pub position-of-code : (row : List ℕ) (j : ℕ) → OfCode (brightestPosition (pixelAt row j))
+unfolding brightestPosition
+position-of-code row j = (brightest (pixelAt row j), refl)
+
+pub code-position-within : {m : ℕ} → OfCode m → m ≤ lastPosition
+unfolding lastPosition
+code-position-within (D, e) = omega arith
+
+-- a record that counts so many pixels
+abbrev pub counting : RunRecord → ℕ → RunRecord
+counting r count = record { rows = r .rows; pixels = count; position = r .position; row = r .row; pixel = r .pixel }
+
+-- ---- one pixel more
+pub first-takes-over : (r : RunRecord) (m : ℕ) → r .pixels ≡ 0 → true ≡ takesOver r m
+unfolding takesOver
+first-takes-over r m e = sym (simp (eq-eqb (r .pixels) 0 e))
+
+pub later-takes-over : (r : RunRecord) (m : ℕ) → (r .pixels ≡ 0 → ⊥) → outshines (lightAt m) (lightAt (r .position .0)) ≡ takesOver r m
+unfolding takesOver
+later-takes-over r m e = sym (simp (ne-eqb (r .pixels) 0 e))
+
+pub taken-over : (r : RunRecord) (m j : ℕ) {count : ℕ} → takesOver r m ≡ true → count ≡ min (suc (r .pixels)) mostPixels
+    → record { rows = r .rows; pixels = count; position = record { 0 = m }; row = r .rows; pixel = j } ≡ withPixel r m j
+unfolding withPixel
+taken-over r m j t e = rw e (sym (simp t))
+
+pub left-alone : (r : RunRecord) (m j : ℕ) {count : ℕ} → takesOver r m ≡ false → count ≡ min (suc (r .pixels)) mostPixels
+    → counting r count ≡ withPixel r m j
+unfolding withPixel
+left-alone r m j t e = rw e (sym (simp t))
+
+-- ---- the pixels of a row
+pub no-pixel : (r : RunRecord) (row : List ℕ) → r ≡ withPixels r row 0
+unfolding withPixels
+no-pixel r row = refl
+
+pub next-pixel : (r : RunRecord) (row : List ℕ) (n : ℕ) {s : RunRecord} {m : ℕ} → s ≡ withPixels r row n → m ≡ brightestPosition (pixelAt row n)
+    → withPixel s m n ≡ withPixels r row (n + 1)
+unfolding withPixels
+next-pixel r row n p q = rw (p, q, add-one n)
+
+-- what holds of both records holds of the one that is chosen
+pub chosen : (P : RunRecord → Type 0) (b : Bool) (x y : RunRecord) → P x → P y → P (cond b x y)
+chosen P true x y p q = p
+chosen P false x y p q = q
+
+-- pixels do not count rows
+pub rows-kept : (r : RunRecord) (row : List ℕ) (n : ℕ) → withPixels r row n .rows ≡ r .rows
+unfolding withPixels withPixel
+rows-kept r row zero = refl
+rows-kept r row (suc n) =
+    let s = withPixels r row n in
+    chosen (λ (x : RunRecord). x .rows ≡ r .rows) (takesOver s (brightestPosition (pixelAt row n))) _ _ (rows-kept r row n) (rows-kept r row n)
+
+-- a found position is one of the range
+pub position-within : (r : RunRecord) (row : List ℕ) (n : ℕ) → r .position .0 ≤ lastPosition → withPixels r row n .position .0 ≤ lastPosition
+unfolding withPixels withPixel
+position-within r row zero h = h
+position-within r row (suc n) h =
+    let s = withPixels r row n in
+    chosen (λ (x : RunRecord). x .position .0 ≤ lastPosition) (takesOver s (brightestPosition (pixelAt row n))) _ _
+    (code-position-within (position-of-code row n)) (position-within r row n h)
+
+-- a record that counts n more
+abbrev pub countingOn : RunRecord → ℕ → RunRecord
+countingOn r n = counting r (min (r .pixels + n) mostPixels)
+
+-- the light at the position of a pixel's brightest code is at most that of the bound
+light-bounded : {row : List ℕ} {n least most : ℕ} → Bounded row n least most → (j : ℕ) → j < n
+    → lightAt (brightestPosition (pixelAt row j)) ≤ lightAt (codePosition most)
+unfolding brightestPosition
+light-bounded {row} {n} {least} {most} b j h =
+    light-grows _ _ (code-position-grows (brightest (pixelAt row j)) most (brightest-bounded b j h))
+
+-- Where a pixel of the bound itself would not take over, the row's pixels only count.
+pub only-counted : (r : RunRecord) (row : List ℕ) {n most : ℕ} → Bounded row n 0 most → r .pixels ≤ mostPixels → takesOver r (codePosition most) ≡ false
+    → (k : ℕ) → k ≤ n → withPixels r row k ≡ countingOn r k
+unfolding takesOver withPixels withPixel
+only-counted r row {n} {most} b p t zero h = let e : r .pixels ≡ min (r .pixels + 0) mostPixels = omega arith in ap (counting r) e
+only-counted r row {n} {most} b p t (suc k) h =
+    ap (λ (s : RunRecord). withPixel s m k) (only-counted r row b p t k (omega arith)) ∙ step
+  where
+    m : ℕ
+    m = brightestPosition (pixelAt row k)
+
+    none : (eqb (r .pixels) 0 ≡ false) × (outshines (lightAt (codePosition most)) (lightAt (r .position .0)) ≡ false)
+    none = neither _ _ t
+
+    some : eqb (min (r .pixels + k) mostPixels) 0 ≡ false
+    some = ne-eqb _ 0 (λ (z : min (r .pixels + k) mostPixels ≡ 0). eqb-false (r .pixels) 0 (none .0) (omega (arith, most-pixels)))
+
+    dim : outshines (lightAt m) (lightAt (r .position .0)) ≡ false
+    dim = dimmer _ _ _ (light-bounded b k (omega arith)) (none .1)
+
+    step : withPixel (countingOn r k) m k ≡ countingOn r (suc k)
+    step =
+        let e : min (suc (min (r .pixels + k) mostPixels)) mostPixels ≡ min (r .pixels + suc k) mostPixels = omega arith in
+        simp (some, dim) (ap (counting r) e)
+
+-- ---- the result
+pub no-peak : (r : RunRecord) → recordRead r .pixels ≡ 0 → Refused 12 ≡ peakAnswer r
+unfolding peakAnswer held peakOf
+no-peak r e = sym (simp (eq-eqb (recordRead r .pixels) 0 e))
+
+pub a-peak : (r : RunRecord) → (recordRead r .pixels ≡ 0 → ⊥)
+    → Peak (roundedUp (lightAt (recordRead r .position .0))) (recordRead r .row) (recordRead r .pixel) ≡ peakAnswer r
+unfolding peakAnswer held peakOf
+a-peak r e = sym (simp (ne-eqb (recordRead r .pixels) 0 e))

@@ -1,0 +1,3 @@
+pub mod Peak
+pub mod Run
+pub mod Bounds
