@@ -2,3 +2,8 @@ pub mod OutshinesLaws
 pub mod BoundLaws
 pub mod RecordLaws
 pub mod AnswerLaws
+pub mod RangeLaws
+pub mod RunLaws
+pub mod FirstLaws
+pub mod PeakLaws
+pub mod Examples

@@ -1,0 +1,63 @@
+-- Small titles, computed: what black, the first code above it, the codes about 1,000 cd/m2 and those from full signal on measure; which row is told;
+-- and a record that has counted all rows.
+use mathlib.Core.Path.{_≡_, refl}
+use mathlib.Core.List.{List, [], _∷_}
+use Prim.Native.Nat.{ℕ}
+use Rattle.quantity.specs.Units.{units}
+use Rattle.quantity.specs.Component.{pixel}
+use Rattle.pq.specs.LightTable.{lightTable, lightEntry}
+use Rattle.big_endian.specs.BigEndian.{numberAt}
+use Rattle.position.specs.Position.{codeLight}
+use Rattle.pixel.specs.Conversion.{brightestLight}
+use Rattle.rows.specs.Row.{sampleAt, pixelBytes}
+use Rattle.rows.specs.Answer.{outside, firstRefused, lengthRefused}
+use Rattle.content_light.specs.declared.RunRecord.{RunRecord}
+use Rattle.content_light.specs.declared.PeakAnswer.the-variants.{Peak, Refused}
+use Rattle.content_light.specs.declared.RecordAnswer.the-variants as answer
+use Rattle.content_light.specs.Peak.{mostRows, rowTest, acceptedRows, outshines, after, afterPixels, afterRows, roundedUp, peakOf, measured}
+use Rattle.content_light.specs.Run.{recordRead, withRow, recordAnswer}
+
+-- a row of one red pixel of that code
+abbrev rowOf : ℕ → List ℕ
+rowOf D = pixelBytes (pixel D 64 64)
+
+pub record Examples : Type 0 where
+  pub black : measured (rowOf 64 ∷ []) ≡ Peak 0 0 0
+  pub first-code : measured (rowOf 65 ∷ []) ≡ Peak 1 0 0
+  pub below-thousand : measured (rowOf 722 ∷ []) ≡ Peak 994 0 0
+  pub above-thousand : measured (rowOf 723 ∷ []) ≡ Peak 1005 0 0
+  pub full-signal : measured (rowOf 940 ∷ []) ≡ Peak 10000 0 0
+  pub past-signal : measured (rowOf 1019 ∷ []) ≡ Peak 10000 0 0
+  pub earlier-row : measured (rowOf 722 ∷ rowOf 65 ∷ []) ≡ Peak 994 0 0
+  pub later-row : measured (rowOf 65 ∷ rowOf 722 ∷ []) ≡ Peak 994 1 0
+  pub equal-light : measured (rowOf 940 ∷ rowOf 1019 ∷ []) ≡ Peak 10000 0 0
+  pub refused-row : measured (rowOf 3 ∷ rowOf 722 ∷ []) ≡ Peak 994 0 0
+  pub empty-row : measured ([] ∷ rowOf 722 ∷ []) ≡ Peak 994 1 0
+  pub no-pixel : measured ([] ∷ []) ≡ Refused 12
+
+pub examples : Examples
+unfolding units lightTable lightEntry numberAt codeLight brightestLight sampleAt pixelBytes outside firstRefused lengthRefused mostRows rowTest
+    acceptedRows outshines after afterPixels afterRows roundedUp peakOf measured
+examples =
+    record {
+      black = refl;
+      first-code = refl;
+      below-thousand = refl;
+      above-thousand = refl;
+      full-signal = refl;
+      past-signal = refl;
+      earlier-row = refl;
+      later-row = refl;
+      equal-light = refl;
+      refused-row = refl;
+      empty-row = refl;
+      no-pixel = refl;
+    }
+
+-- a record that stands there refuses 13, also a row that would be refused otherwise
+abbrev allRows : RunRecord
+allRows = record { rows = 4294967295; pixels = 1; position = record { 0 = 0 }; row = 0; pixel = 0 }
+
+pub full-record : (row : List ℕ) → recordAnswer allRows row ≡ answer.Refused 13 0
+unfolding mostRows rowTest recordAnswer
+full-record row = refl
