@@ -1,0 +1,2 @@
+pub mod NextRowLaws
+pub mod Program
