@@ -17,14 +17,19 @@ def pixels_of(samples):
     return list(zip(samples[0::3], samples[1::3], samples[2::3]))
 
 
+def refuse_length(row):
+    """Refusal 6."""
+    if len(row) % PIXEL_BYTES or len(row) > PIXEL_BYTES * WIDEST:
+        raise Refused(6)
+
+
 def convert_row(L, row, destination, first, end):
     """Converts the span from `first` up to `end`, itself not included, and writes it to its places in `destination`, a bytearray.
 
     Refusals 5 to 9 in this order; a refused call writes nothing.
     """
     refuse_peak(L)
-    if len(row) % PIXEL_BYTES or len(row) > PIXEL_BYTES * WIDEST:
-        raise Refused(6)
+    refuse_length(row)
     if len(destination) != len(row):
         raise Refused(7)
     if first > end or end > len(row) // PIXEL_BYTES:

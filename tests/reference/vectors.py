@@ -15,10 +15,11 @@ from random import Random
 from .cases import cards, row_calls, titles
 from .metadata import after_metadata, peak_of_metadata
 from .pixel import convert_pixel
-from .program import MOST_ROWS, convert_title
+from .program import convert_title
 from .refusal import Refused
 from .row import c_number
 from .samples import code_of_peak, draw_peaks, draw_pixel, knee_code
+from .title import MOST_ROWS
 
 ROOT = Path(__file__).resolve().parents[2]
 FOLDER = "tests/vectors"

@@ -1,0 +1,56 @@
+"""Document 01, "Cards, rows, program": a title as the programs read it, from its first byte to its last row."""
+
+import sys
+
+from .metadata import card_length, peak_of_metadata
+from .refusal import Refused, refuse_samples
+from .row import PIXEL_BYTES, WIDEST, samples_of
+
+MOST_ROWS = 4_294_967_295
+
+
+def read_card(read):
+    """The card's own bytes, as many as there are of them."""
+    card = read(1)
+    if card and not card[0] >> 3:
+        card += read(card_length(card[0]) - 1)
+    return card
+
+
+def read_width(read):
+    """The pixels of a row; refusal 10."""
+    data = read(2)
+    width = int.from_bytes(data, "big")
+    if len(data) < 2 or not 1 <= width <= WIDEST:
+        raise Refused(10)
+    return width
+
+
+def read_opening(read):
+    """The declared peak and the width; refusals 1 to 4, then 10."""
+    return peak_of_metadata(read_card(read)), read_width(read)
+
+
+def read_rows(read, width, most_rows=MOST_ROWS):
+    """The rows one by one, as bytes; refusal 11 before 9. What follows the last one that may be read stays unread."""
+    for _ in range(most_rows):
+        row = read(PIXEL_BYTES * width)
+        if not row:
+            return
+        if len(row) < PIXEL_BYTES * width:
+            raise Refused(11)
+        refuse_samples(samples_of(row))
+        yield row
+
+
+def input_of(program):
+    """Reads standard input: `read(n)` gives n bytes, fewer only at its end. A read error counts as the end; it is told on standard error."""
+    def read(n):
+        data = b""
+        try:
+            while len(data) < n and (part := sys.stdin.buffer.read1(n - len(data))):
+                data += part
+        except OSError as error:
+            print(f"{program}: {error}", file=sys.stderr)
+        return data
+    return read
