@@ -1,4 +1,4 @@
-"""Every number that document 01 names, and the laws between its parts.
+"""Every number that document 01 and request 01 name, and the laws between their parts.
 
     python3 -m tests.reference.check
 
@@ -14,15 +14,16 @@ from math import isqrt
 from pathlib import Path
 from random import Random
 
-from . import curve, exact, hlg, light, metadata, program, row
+from . import content_light, curve, exact, hlg, light, measure, metadata, program, row
 from .cases import CORNERS, row as row_bytes, title
 from .light import A, BRIGHTEST, END, LAST, N, P
 from .pixel import convert_pixel, hlg_codes, mapped_components
 from .refusal import Refused
+from .row import MOST_ROWS
 from .rounding import power, power_below
 from .samples import MARKED_PEAKS, draw_peaks, draw_pixel
 from .survey import held_to_nine_sixteenths, quick_distance
-from .vectors import FILL, converted
+from .vectors import FILL, converted, measured
 
 ROOT = Path(__file__).resolve().parents[2]
 OUTPUTS = ((64, 64, 64), (976, 64, 64), (64, 950, 64), (64, 64, 1_015), (942, 942, 64),
@@ -336,6 +337,138 @@ def program_answers():
             "".join(out).encode() == answer and source.tell() == 5 + 6 * limit)
 
 
+# Request 01: the measuring run
+
+def one_pixel(*codes):
+    """What a list of one row of one pixel measures."""
+    return content_light.measure([row_bytes(codes)])
+
+
+def steps(record, rows):
+    """The run by its record: the record after the rows, and of each row its refusal or None."""
+    refused = []
+    for data in rows:
+        refused.append(refusal(content_light.measure_row, record, data))
+        if refused[-1] is None:
+            record = content_light.measure_row(record, data)
+    return record, refused
+
+
+def both_ways(rows, empty=0):
+    """Whether list and record agree on the refusals and on the result, after so many rows of no pixel."""
+    listed = [each and (each.number, each.place) for each in content_light.refusals(rows, empty)]
+    record, refused = steps(content_light.Record(rows=empty), rows)
+    accepted = [len(data) // 6 for data, each in zip(rows, refused) if each is None]
+    return (listed == refused and (record.rows, record.pixels) == (empty + len(accepted), sum(accepted))
+            and outcome(content_light.measure, rows, empty) == outcome(content_light.measured_peak, record))
+
+
+def outcome(call, *arguments):
+    """A call's result, or its refusal."""
+    return refusal(call, *arguments) or call(*arguments)
+
+
+def measured_numbers():
+    for D, peak in ((64, 0), (65, 1), (722, 994), (723, 1_005), (939, 9_892), (940, 10_000), (4, 0), (1_019, 10_000)):
+        yield f"brightest code {D} measures {peak}", all(
+            one_pixel(*codes) == (peak, 0, 0) for codes in (grey(D), (D, 4, 64), (64, D, 4), (4, 64, D)))
+    yield "722 has 993.73 cd/m2 and 723 has 1,004.19", [round(light.light_of_code(D) / N, 2) for D in (722, 723)] == [993.73, 1_004.19]
+    dim, bright = grey(509), grey(800)
+    yield "the first of equal pixels in a row", content_light.measure([row_bytes(dim, bright, dim, bright)]) == (2_249, 0, 1)
+    yield "the first of equal rows", content_light.measure([row_bytes(dim, dim), row_bytes(dim, bright), row_bytes(bright, dim)]) == (2_249, 1, 1)
+    yield "super-whites tie with 940, sub-blacks with 64", (
+        content_light.measure([row_bytes(grey(940), grey(1_019))]) == (10_000, 0, 0)
+        and content_light.measure([row_bytes(grey(4), grey(64))]) == (0, 0, 0))
+    yield "a refused row is not numbered", content_light.measure([b"", row_bytes(grey(3)), b"\0", row_bytes(dim)]) == (100, 1, 0) == (
+        content_light.measured_peak(steps(content_light.Record(), [b"", row_bytes(grey(3)), b"\0", row_bytes(dim)])[0]))
+    yield "no pixel: refusal 12, also after rows of none and refused ones", all(
+        refusal(content_light.measure, rows) == (12, 0) for rows in ([], [b""], [b"", b"\0"], [row_bytes(grey(3))]))
+    yield "a fresh record has no pixel", refusal(content_light.measured_peak, content_light.Record()) == (12, 0)
+
+
+def measured_refusals():
+    last = content_light.Record(rows=MOST_ROWS, pixels=1)
+    bad, long, damaged = row_bytes(grey(64), (64, 64, 3)), bytes(49_158), bytes(7)
+    for data in (b"", row_bytes(grey(64)), bad, long, damaged):
+        yield f"13 before all else, row of {len(data)} bytes", all(
+            refusal(content_light.measure_row, record, data) == (13, 0) for record in (last, last._replace(rows=2**64 - 1)))
+    before = last._replace(rows=MOST_ROWS - 1)
+    yield "6 before 9, and the place of 9, one row before", [
+        refusal(content_light.measure_row, before, data) for data in (b"", bad, long, damaged)] == [None, (9, 5), (6, 0), (6, 0)]
+    yield "that row is the last one", content_light.measure_row(before, row_bytes(grey(65)))[:4:3] == (MOST_ROWS, MOST_ROWS - 1)
+
+
+def draw_rows(random, count):
+    """Rows of few codes, so that brightest pixels are often equal; refused and empty ones between."""
+    codes = random.sample(range(4, 1_020), random.randint(1, 4)) + random.choices((4, 64, 65, 939, 940, 1_019), k=2)
+    for _ in range(count):
+        data = bytearray(row_bytes(*(random.choices(codes, k=3) for _ in range(random.choice((0, 1, 1, 2, 3, 5))))))
+        lot = random.random()
+        if lot < 0.1:
+            data += bytes(random.randint(1, 5))
+        elif lot < 0.2 and data:
+            at = 2 * random.randrange(len(data) // 2)
+            data[at:at + 2] = random.choice((0, 3, 1_020, 65_535)).to_bytes(2, "big")
+        elif lot < 0.21:
+            data = bytearray(49_158)
+        yield bytes(data)
+
+
+def measured_lists():
+    random = Random(6)
+    lists = [list(draw_rows(random, random.randrange(9))) for _ in range(2_000)]
+    yield "the record gives what the whole list gives, refusals included", all(map(both_ways, lists))
+    yield "also where the rows come to their end", all(both_ways(rows, MOST_ROWS - random.randrange(7)) for rows in lists)
+    sound = [[data for data, each in zip(rows, content_light.refusals(rows)) if each is None] for rows in lists]
+    yield "refused rows change nothing", all(
+        outcome(content_light.measure, rows) == outcome(content_light.measure, kept) for rows, kept in zip(lists, sound))
+    peaks = [(outcome(content_light.measure, rows)[0], [pixel for data in rows for pixel in row.pixels_of(row.samples_of(data))])
+             for rows in sound if any(rows)]
+    yield "the peak is the least whole cd/m2 that no light exceeds", all(
+        (L - 1) * N < max(light.light_of_code(max(pixel)) for pixel in pixels) <= L * N for L, pixels in peaks)
+    yield "no pixel lies above a measured peak from 1 up, by light and by position", all(
+        light.light_of_code(D) <= L * N and curve.position_of_code(D) <= curve.position_of_peak(L)
+        for L, pixels in peaks if L for D in map(max, pixels))
+    each = [(D, one_pixel(*grey(D))[0]) for D in range(4, 1_020)]
+    yield "the same for each code that can be the brightest; the row call takes the peak", all(
+        light.light_of_code(D) <= L * N and curve.position_of_code(D) <= curve.position_of_peak(L)
+        and refusal(convert_pixel, L, grey(D)) is None for D, L in each if L)
+    yield "only black measures 0, nothing more than 10,000", all((L == 0) == (D <= 64) and L <= 10_000 for D, L in each)
+
+
+def measured_records():
+    random = Random(7)
+    past = [end + more for end in content_light.ENDS for more in (0, 1)] + [2**32, 2**63, 2**64 - 1]
+    for _ in range(300):
+        record = content_light.Record(*(random.choice((0, 1, random.randrange(end + 1), end, random.choice(past))) for end in content_light.ENDS))
+        cut = content_light.Record(*(end if field > end else field for field, end in zip(record, content_light.ENDS)))
+        data = next(draw_rows(random, 1))
+        yield f"{record} reads as {cut}", (
+            outcome(content_light.measured_peak, record) == outcome(content_light.measured_peak, cut)
+            and outcome(content_light.measure_row, record, data) == outcome(content_light.measure_row, cut, data))
+
+
+def measure_answers():
+    card = b"\x01\x03\xe8"
+    white, brighter = row_bytes(grey(723)), row_bytes(grey(800))
+    cut, bad = white[:5], row_bytes((64, 3, 64))
+    answers = (
+        ("no input", b"", "refused 1"), ("an unknown bit", b"\x08", "refused 2"), ("a cut card", b"\x01", "refused 3"),
+        ("a field of 0", b"\x01\0\0", "refused 4"), ("no width", card, "refused 10"), ("width 0", title(card, 0), "refused 10"),
+        ("no rows", title(card, 8_192), "refused 12"), ("a cut row", title(card, 1, white, cut), "refused 11"),
+        ("a bad row", title(card, 1, white, bad, white), "refused 9"), ("a bad and cut row", title(card, 2, bad, cut), "refused 11"),
+        ("a cut row after a bad one", title(card, 1, bad, cut), "refused 9"), ("two rows", title(card, 1, white, brighter), "2249 1 0"),
+        ("the card's peak is not used", title(b"\x04", 1, brighter, white), "2249 0 0"))
+    for name, data, printed in answers:
+        yield f"measure, {name}: {printed}", measured(data) == printed.encode() + b"\n"
+    run = subprocess.run([sys.executable, "-B", "-m", "tests.reference.measure"], cwd=ROOT, input=title(card, 1, white), capture_output=True)
+    yield "measure as a filter", (run.returncode, run.stdout, run.stderr) == (0, b"1005 0 0\n", b"")
+    for limit, answer in ((0, "refused 12"), (1, "1005 0 0"), (2, "2249 1 0"), (3, "refused 9")):
+        out, source = [], BytesIO(title(card, 1, white, brighter, bad))
+        measure.measure_title(source.read, out.append, limit)
+        yield f"measure, at most {limit} rows, what follows stays unread", ("".join(out) == answer + "\n" and source.tell() == 5 + 6 * limit)
+
+
 # Voted property 3
 
 def distance():
@@ -386,7 +519,7 @@ def traps():
 
 LAWS = (light_table, light_of_codes, positions, spline_is_hermite, highlight_curve, published_patches, hlg_steps,
         hlg_code, published_constants, published_table, corner_pixels, other_examples, cards, rows, program_answers,
-        distance, greys, traps)
+        measured_numbers, measured_refusals, measured_lists, measured_records, measure_answers, distance, greys, traps)
 
 
 def failures():

@@ -5,6 +5,7 @@ from .refusal import Refused, refuse_peak, refuse_samples
 
 PIXEL_BYTES = 6
 WIDEST = 8_192
+MOST_ROWS = 4_294_967_295      # of a title, and of a measuring run
 
 
 def samples_of(row):

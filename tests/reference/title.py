@@ -4,9 +4,7 @@ import sys
 
 from .metadata import card_length, peak_of_metadata
 from .refusal import Refused, refuse_samples
-from .row import PIXEL_BYTES, WIDEST, samples_of
-
-MOST_ROWS = 4_294_967_295
+from .row import MOST_ROWS, PIXEL_BYTES, WIDEST, samples_of
 
 
 def read_card(read):

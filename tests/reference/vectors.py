@@ -13,13 +13,13 @@ from pathlib import Path
 from random import Random
 
 from .cases import cards, row_calls, titles
+from .measure import measure_title
 from .metadata import after_metadata, peak_of_metadata
 from .pixel import convert_pixel
 from .program import convert_title
 from .refusal import Refused
-from .row import c_number
+from .row import MOST_ROWS, c_number
 from .samples import code_of_peak, draw_peaks, draw_pixel, knee_code
-from .title import MOST_ROWS
 
 ROOT = Path(__file__).resolve().parents[2]
 FOLDER = "tests/vectors"
@@ -106,11 +106,21 @@ def card_line(data):
         return f"{digits(data)} refused {refused.number}"
 
 
+def printed(program, data, most_rows):
+    """What a program prints for an input."""
+    texts = []
+    program(BytesIO(data).read, texts.append, most_rows)
+    return "".join(texts).encode()
+
+
 def converted(data, most_rows=MOST_ROWS):
-    """What the program prints for an input."""
-    printed = []
-    convert_title(BytesIO(data).read, printed.append, most_rows)
-    return "".join(printed).encode()
+    """What `convert` prints for an input."""
+    return printed(convert_title, data, most_rows)
+
+
+def measured(data, most_rows=MOST_ROWS):
+    """What `measure` prints for an input."""
+    return printed(measure_title, data, most_rows)
 
 
 def lines(each):

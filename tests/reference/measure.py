@@ -1,0 +1,24 @@
+"""Request 01: the program `measure` as a filter.
+
+    python3 -m tests.reference.measure < title
+"""
+
+import sys
+
+from .content_light import measure
+from .refusal import Refused
+from .row import MOST_ROWS
+from .title import input_of, read_opening, read_rows
+
+
+def measure_title(read, write, most_rows=MOST_ROWS):
+    """A whole title: one line, whatever its card declares. `read(n)` gives n bytes, fewer only at the end of the input."""
+    try:
+        _, width = read_opening(read)
+        write("%d %d %d\n" % measure(list(read_rows(read, width, most_rows))))
+    except Refused as refused:
+        write(f"refused {refused.number}\n")
+
+
+if __name__ == "__main__":
+    measure_title(input_of("measure"), sys.stdout.write)
