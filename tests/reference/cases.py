@@ -145,9 +145,45 @@ def wide_rows():
 
 
 def titles():
-    """All named inputs of the program."""
+    """All named inputs of `convert`, which `measure` reads too."""
     for group in (accepted_titles, named_peaks, wide_rows, refused_cards, refused_widths, refused_rows):
         yield from group()
+
+
+def measured_titles():
+    """Titles of `measure` alone: what is brightest, and which of equals; the card plays no part."""
+    card = b"\x00"
+    grey = {D: (D, D, D) for D in (4, 63, 64, 65, 500, 800, 939, 940, 941, 1_019)}
+    for D in (4, 63, 64, 65, 66, 509, 721, 722, 723, 724, 938, 939, 940, 941, 1_019):
+        yield f"brightest_code_{D}", title(card, 1, row((D, D, D)))
+    yield "black_title", title(card, 3, row(*[BLACK] * 3) * 4)
+    yield "black_and_sub_black_title", title(card, 2, row(grey[64], grey[4]), row(grey[63], grey[64]))
+    yield "sub_black_before_black", title(card, 2, row(grey[4], grey[64]))
+    for name, pixel in (("red", (800, 64, 64)), ("green", (64, 800, 64)), ("blue", (64, 64, 800))):
+        yield f"brightest_{name}_alone", title(card, 3, row((700, 700, 700), pixel, (799, 799, 799)))
+    yield "equal_brightest_in_other_components", title(card, 4, row(BLACK, (64, 64, 800), (800, 64, 64), grey[800]))
+    yield "equal_brightest_in_one_row", title(card, 5, row(BLACK, grey[800], BLACK, grey[800], grey[800]))
+    yield "equal_brightest_over_rows", title(card, 3, row(grey[500], BLACK, grey[500]), row(BLACK, BLACK, grey[800]), row(grey[800], BLACK, BLACK))
+    yield "equal_brightest_everywhere", title(card, 4, row(*[grey[500]] * 4) * 5)
+    yield "first_row_kept_by_equal_last_row", title(card, 2, row(grey[800], BLACK), row(BLACK, BLACK), row(grey[800], grey[800]))
+    yield "super_white_before_940", title(card, 3, row(grey[939], grey[1_019], grey[940]))
+    yield "super_white_after_940", title(card, 3, row(grey[940], grey[941], grey[1_019]))
+    yield "super_white_in_a_later_row", title(card, 1, row(grey[939]), row(grey[940]), row(grey[1_019]))
+    yield "brightest_first_pixel", title(card, 3, row(grey[940], grey[800], grey[500]), row(grey[939], grey[800], BLACK))
+    yield "brightest_last_pixel_of_last_row", title(card, 3, row(grey[800], BLACK, grey[939]), row(grey[939], BLACK, grey[940]))
+    yield "brightest_last_pixel_of_first_row", title(card, 3, row(BLACK, BLACK, grey[800]), row(grey[500], grey[500], grey[500]))
+    yield "brightest_in_a_middle_row", title(card, 2, row(grey[500], grey[65]), row(grey[65], grey[800]), row(grey[500], grey[500]))
+    yield "every_pixel_brighter_than_the_one_before", title(card, 8, row(*((D, 64, D) for D in range(65, 65 + 32))))
+    yield "every_pixel_dimmer_than_the_one_before", title(card, 8, row(*((D, 64, D) for D in range(96, 64, -1))))
+    yield "one_code_brighter_far_on", title(card, 16, row(*[grey[939]] * 16) * 20, row(*[grey[939]] * 15, grey[940]))
+    yield "width_8192_brightest_last_pixel", title(card, 8_192, row(BLACK) * 8_191 + row((64, 65, 64)))
+    yield "width_8192_brightest_in_second_row", title(card, 8_192, row(grey[500]) * 8_192, row(BLACK) * 8_190 + row((64, 501, 64), (501, 501, 64)))
+    yield "declared_peak_below_the_brightest", title(maxcll(100), 2, row(grey[940], BLACK))
+    yield "declared_peak_above_the_brightest", title(b"\x07" + word(10_000) + word(10_000), 2, row(BLACK, grey[65]))
+    yield "bad_sample_after_the_brightest", title(card, 2, row(grey[940], grey[800]), row(BLACK, (64, 64, 1_020)))
+    yield "bad_sample_brighter_than_all", title(card, 1, row(grey[500]), row((1_020, 1_020, 1_020)))
+    yield "row_cut_short_after_the_brightest", title(card, 2, row(grey[940], grey[800]), row(grey[940]))
+    yield "three_rows_brightest_last", title(card, 1, row(grey[500]), row(grey[800]), row(grey[940]))
 
 
 def cards():
@@ -195,3 +231,53 @@ def row_calls():
     for first, end in ((0, 0), (0, 1), (1, 1), (1, 0), (big, big)):
         yield 1_000, b"", 0, first, end
     yield 1_000, b"", 6, 0, 0
+
+
+def records():
+    """Questions to the measuring run: the five fields of a record (rows, pixels, position, row, pixel) and a row."""
+    most_rows, top = 4_294_967_295, 2**64 - 1
+    ends = (most_rows, 8_192 * most_rows, 897_024, most_rows - 1, 8_191)
+    fresh, mid = (0, 0, 0, 0, 0), (41, 82, 1_024 * (700 - 64), 17, 1)
+    code = {D: row((D, D, D)) for D in (4, 63, 64, 65, 66, 699, 700, 701, 939, 940, 941, 1_019)}
+    sound = (b"", *code.values(), row((699, 4, 64), (64, 701, 701), (701, 4, 4), (64, 700, 64)), row(BLACK, BLACK, (64, 64, 65)),
+             row(*CORNERS), row((940, 4, 4), (4, 1_019, 4)), row((4, 4, 4), BLACK, (63, 64, 4)))
+    refused = (bytes(1), bytes(5), code[700] + bytes(1), code[700][:-1], bytes(49_158), row((64, 64, 3)), row((1_020, 64, 64), (3, 3, 3)),
+               row(WHITE, RED, (64, 65_535, 64)), row(BLACK, (4, 4, 1_019), (0, 0, 0)), row(WHITE, (16_384, 64, 64)) + bytes(3))
+    for record in (fresh, mid):
+        for data in (*sound, *refused):
+            yield record, data
+    # a run: each record is the one that the row before gave
+    yield (1, 1, 1_024, 0, 0), code[65]
+    yield (2, 2, 1_024, 0, 0), code[66]
+    yield (3, 3, 2_048, 2, 0), b""
+    yield (4, 3, 2_048, 2, 0), row(BLACK, (66, 66, 66))
+    # rows of no pixel before the first pixel, and a brightest light where there is no pixel
+    for data in (b"", code[4], code[64], code[65], row(BLACK, BLACK), row(BLACK, (65, 64, 64))):
+        yield (3, 0, 0, 0, 0), data
+        yield (3, 0, 897_024, 2, 5), data
+        yield (0, 7, 0, 0, 0), data
+    # the wide rows
+    for record in (fresh, (7, ends[1] - 8_191, 0, 0, 0)):
+        yield record, bytes([2]) * 49_152
+        yield record, bytes([2]) * 49_146 + code[701]
+        yield record, bytes([2]) * 49_150 + b"\x04\x00"
+    yield mid, bytes([2]) * 49_158
+    # positions beside those of codes, and where several have one light
+    for position in (0, 1, 2, 3, 4, 1_023, 1_024, 1_025, 651_263, 651_264, 651_265, 652_287, 652_288, 652_289, 896_000, 896_001, 897_023, 897_024):
+        for data in (code[64], code[65], code[700], code[701], code[939], code[940], code[1_019]):
+            yield (9, 9, position, 3, 3), data
+    # fields at and past the ends of their ranges, each alone and all together; 13 before 6 and 9
+    for data in (b"", code[64], row(WHITE, (940, 64, 64)), bytes(7), row(BLACK, (64, 64, 3))):
+        for field, end in enumerate(ends):
+            for value in (end - 1, end, end + 1, 2**32, 2**63, top):
+                yield (*mid[:field], value, *mid[field + 1:]), data
+        for more in (-1, 0, 1):
+            yield tuple(end + more for end in ends), data
+        yield (top,) * 5, data
+        yield (most_rows - 1, *[top] * 4), data
+        yield (most_rows - 1, 0, 0, 0, 0), data
+        yield (most_rows, 0, 0, 0, 0), data
+        yield (2**32 + 5, 5, 5, 5, 5), data
+        yield (5, 2**64 - 2, 2**32 + 5, 2**32 + 5, 2**32 + 5), data
+    for pixels in (ends[1] - 3, ends[1] - 2, ends[1] - 1, ends[1], ends[1] + 1):
+        yield (0, pixels, 0, 0, 0), row(BLACK, WHITE)

@@ -7,12 +7,14 @@ The files of a program are stdin and stdout in its crate's folder; they are skip
 folder does not exist. README.md gives the forms of the files.
 """
 
+import re
 import sys
 from io import BytesIO
 from pathlib import Path
 from random import Random
 
-from .cases import cards, row_calls, titles
+from .cases import cards, measured_titles, records, row_calls, titles
+from .content_light import Record, measure_row, measured_peak
 from .measure import measure_title
 from .metadata import after_metadata, peak_of_metadata
 from .pixel import convert_pixel
@@ -65,10 +67,10 @@ def pixel_cases():
     yield from refused_pixels()
 
 
-def pixel_answer(L, pixel):
-    """`R G B`, or `refused NUMBER PLACE`."""
+def answer(call, *arguments):
+    """A call's numbers, or `refused NUMBER PLACE`."""
     try:
-        return "%d %d %d" % convert_pixel(L, pixel)
+        return " ".join(map(str, call(*arguments)))
     except Refused as refused:
         return f"refused {refused.number} {refused.place}"
 
@@ -78,9 +80,14 @@ def pixel_line(L, pixel, answer):
     return " ".join(map(str, (L, *pixel, answer)))
 
 
+def words(*numbers):
+    """Numbers of 8 bytes each, high byte first."""
+    return b"".join(number.to_bytes(8, "big") for number in numbers)
+
+
 def pixel_question(L, pixel):
-    """Peak, red, green and blue, 8 bytes each, high byte first."""
-    return b"".join(number.to_bytes(8, "big") for number in (L, *pixel))
+    """Peak, red, green and blue."""
+    return words(L, *pixel)
 
 
 def digits(data):
@@ -96,6 +103,30 @@ def row_line(L, row, length, first, end):
     number = c_number(L, row, destination, first, end)
     after = "same" if destination == bytearray([FILL]) * length else digits(destination)
     return f"{L} {first} {end} {digits(row)} {length} {number} {after}"
+
+
+def result_answer(record):
+    """`peak row pixel`, or `refused 12`."""
+    try:
+        return "%d %d %d" % measured_peak(record)
+    except Refused as refused:
+        return f"refused {refused.number}"
+
+
+def record_answer(record, row):
+    """`rows pixels position row pixel` of the record with the row in it, or its refusal; then the result of the record as it was given."""
+    return f"{answer(measure_row, Record(*record), row)} : {result_answer(Record(*record))}"
+
+
+def record_question(record, row):
+    """The record's fields, the row's length in two bytes, the row."""
+    return words(*record) + len(row).to_bytes(2, "big") + row
+
+
+def record_line(record, row, given):
+    """`rows pixels position row pixel ROW`, then the answer. Long runs of one byte stand apart in the row, joined to the rest by +."""
+    parts = re.finditer(rb"(?s)(.)\1{64,}|(?:(?!(.)\2{64,}).)+", row)
+    return f"{' '.join(map(str, record))} {'+'.join(digits(part[0]) for part in parts) or '-'} {given}"
 
 
 def card_line(data):
@@ -128,30 +159,39 @@ def lines(each):
     return "".join(line + "\n" for line in dict.fromkeys(each)).encode()
 
 
-def vector_files(pixels):
+def vector_files(pixels, measured_rows):
     """Every file of tests/vectors: its path and its bytes."""
-    yield f"{FOLDER}/pixels.txt", lines(pixel_line(*case, answer) for case, answer in pixels.items())
+    yield f"{FOLDER}/pixels.txt", lines(pixel_line(*case, given) for case, given in pixels.items())
+    yield f"{FOLDER}/records.txt", lines(record_line(*case, given) for case, given in measured_rows.items())
     yield f"{FOLDER}/rows.txt", lines(row_line(*case) for case in row_calls())
     yield f"{FOLDER}/cards.txt", lines(map(card_line, cards()))
     for name, data in titles():
         yield f"{FOLDER}/convert/{name}.in", data
         yield f"{FOLDER}/convert/{name}.out", converted(data)
+        yield f"{FOLDER}/measure/{name}.out", measured(data)
+    for name, data in measured_titles():
+        yield f"{FOLDER}/measure/{name}.in", data
+        yield f"{FOLDER}/measure/{name}.out", measured(data)
 
 
-def programs(pixels):
+def programs(pixels, measured_rows):
     """What each program is run on: its crate, its input and the output that it owes."""
     sample = dict(titles())["sample"]
     yield "convert", sample, converted(sample)
+    yield "measure", sample, measured(sample)
     # two rows and what would be refused in a third
     past_limit = sample + sample[5:] + bytes.fromhex("00 00 FF")
     yield "title_limit", past_limit, converted(past_limit, 2)
-    questions = b"".join(pixel_question(*case) for case in pixels)
-    yield "pixel_vectors", questions, "".join(answer + "\n" for answer in pixels.values()).encode()
+    # two rows and a brighter third
+    brighter = dict(measured_titles())["three_rows_brightest_last"]
+    yield "measure_limit", brighter, measured(brighter, 2)
+    for crate, question, cases in (("pixel_vectors", pixel_question, pixels), ("record_vectors", record_question, measured_rows)):
+        yield crate, b"".join(question(*case) for case in cases), "".join(given + "\n" for given in cases.values()).encode()
 
 
-def program_files(pixels):
+def program_files(*cases):
     """Standard input and output of the programs whose crates are there; says which are not."""
-    for crate, given, owed in programs(pixels):
+    for crate, given, owed in programs(*cases):
         if (ROOT / "crates" / crate).is_dir():
             yield f"crates/{crate}/stdin", given
             yield f"crates/{crate}/stdout", owed
@@ -161,9 +201,10 @@ def program_files(pixels):
 
 def files():
     """Every stored file: its path in the repository and its bytes."""
-    pixels = {case: pixel_answer(*case) for case in pixel_cases()}
-    yield from vector_files(pixels)
-    yield from program_files(pixels)
+    pixels = {case: answer(convert_pixel, *case) for case in pixel_cases()}
+    measured_rows = {case: record_answer(*case) for case in records()}
+    yield from vector_files(pixels, measured_rows)
+    yield from program_files(pixels, measured_rows)
 
 
 def differences(stored):
@@ -174,7 +215,7 @@ def differences(stored):
             yield f"missing: {path}"
         elif file.read_bytes() != data:
             yield f"differs: {path}"
-    for file in sorted(ROOT.glob(f"{FOLDER}/convert/*")):
+    for file in sorted(ROOT.glob(f"{FOLDER}/*/*")):
         if str(file.relative_to(ROOT)) not in stored:
             yield f"left over: {file.relative_to(ROOT)}"
 
@@ -185,8 +226,8 @@ def main(arguments):
         found = list(differences(stored))
         print("\n".join(found) if found else f"{len(stored)} files as stored")
         return 1 if found else 0
-    (ROOT / FOLDER / "convert").mkdir(parents=True, exist_ok=True)
     for path, data in stored.items():
+        (ROOT / path).parent.mkdir(parents=True, exist_ok=True)
         (ROOT / path).write_bytes(data)
     print(f"{len(stored)} files, {sum(map(len, stored.values()))} bytes")
     return 0
