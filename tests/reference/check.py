@@ -21,7 +21,7 @@ from .pixel import convert_pixel, hlg_codes, mapped_components
 from .refusal import Refused
 from .row import MOST_ROWS
 from .rounding import power, power_below
-from .samples import MARKED_PEAKS, draw_peaks, draw_pixel
+from .samples import MARKED_PEAKS, draw_measured_row, draw_palette, draw_peaks, draw_pixel
 from .survey import held_to_nine_sixteenths, quick_distance
 from .vectors import FILL, converted, measured
 
@@ -398,25 +398,15 @@ def measured_refusals():
     yield "that row is the last one", content_light.measure_row(before, row_bytes(grey(65)))[:4:3] == (MOST_ROWS, MOST_ROWS - 1)
 
 
-def draw_rows(random, count):
-    """Rows of few codes, so that brightest pixels are often equal; refused and empty ones between."""
-    codes = random.sample(range(4, 1_020), random.randint(1, 4)) + random.choices((4, 64, 65, 939, 940, 1_019), k=2)
-    for _ in range(count):
-        data = bytearray(row_bytes(*(random.choices(codes, k=3) for _ in range(random.choice((0, 1, 1, 2, 3, 5))))))
-        lot = random.random()
-        if lot < 0.1:
-            data += bytes(random.randint(1, 5))
-        elif lot < 0.2 and data:
-            at = 2 * random.randrange(len(data) // 2)
-            data[at:at + 2] = random.choice((0, 3, 1_020, 65_535)).to_bytes(2, "big")
-        elif lot < 0.21:
-            data = bytearray(49_158)
-        yield bytes(data)
+def draw_list(random):
+    """A list of rows, empty and refused ones among them."""
+    codes = draw_palette(random)
+    return [draw_measured_row(random, codes, random.choice((0, 1, 1, 2, 3, 5))) for _ in range(random.randrange(9))]
 
 
 def measured_lists():
     random = Random(6)
-    lists = [list(draw_rows(random, random.randrange(9))) for _ in range(2_000)]
+    lists = [draw_list(random) for _ in range(2_000)]
     yield "the record gives what the whole list gives, refusals included", all(map(both_ways, lists))
     yield "also where the rows come to their end", all(both_ways(rows, MOST_ROWS - random.randrange(7)) for rows in lists)
     sound = [[data for data, each in zip(rows, content_light.refusals(rows)) if each is None] for rows in lists]
@@ -442,7 +432,7 @@ def measured_records():
     for _ in range(300):
         record = content_light.Record(*(random.choice((0, 1, random.randrange(end + 1), end, random.choice(past))) for end in content_light.ENDS))
         cut = content_light.Record(*(end if field > end else field for field, end in zip(record, content_light.ENDS)))
-        data = next(draw_rows(random, 1))
+        data = draw_measured_row(random, draw_palette(random), random.randrange(4))
         yield f"{record} reads as {cut}", (
             outcome(content_light.measured_peak, record) == outcome(content_light.measured_peak, cut)
             and outcome(content_light.measure_row, record, data) == outcome(content_light.measure_row, cut, data))

@@ -59,3 +59,32 @@ def draw_pixel(random, L):
         lambda: shuffled(random, dim, random.randint(64, 90), random.randint(64, knee)),
     )
     return random.choice(kinds)()
+
+
+def draw_palette(random):
+    """A few codes, so that brightest pixels are often equal; among them often some of one light."""
+    return random.sample(range(4, 1_020), random.randint(1, 4)) + random.choices((4, 63, 64, 65, 939, 940, 941, 1_019), k=random.randrange(4))
+
+
+def draw_row(random, codes, pixels):
+    """The bytes of a row of such codes."""
+    return b"".join(code.to_bytes(2, "big") for code in random.choices(codes, k=3 * pixels))
+
+
+def with_bad_samples(random, row):
+    """A row with one sample out of range, or several."""
+    row = bytearray(row)
+    for _ in range(random.choice((1, 1, 1, 2, 5))):
+        at = 2 * random.randrange(len(row) // 2)
+        row[at:at + 2] = random.choice((0, 3, 1_020, 1_023, 1_024, 16_384, 65_535)).to_bytes(2, "big")
+    return bytes(row)
+
+
+def draw_measured_row(random, codes, pixels):
+    """A row for the measuring run: sound, or now and then refused, by its length, by a sample or by both."""
+    row, lot = draw_row(random, codes, pixels), random.random()
+    if 0.1 < lot < 0.22 and row:
+        row = with_bad_samples(random, row)
+    if lot < 0.12:
+        row += bytes(random.randint(1, 5))
+    return bytes(49_158) if lot > 0.99 else row

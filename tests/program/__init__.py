@@ -1,0 +1,1 @@
+"""The built programs beside the second implementation."""

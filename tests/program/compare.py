@@ -1,0 +1,198 @@
+"""Compares the built programs with the second implementation on titles and records drawn by lot, sound and damaged ones.
+
+    python3 -m tests.program.compare [--short] [--built FOLDER] [SEED]
+
+README.md says what is drawn. Ends with status 1 after a line that starts with DIFFERENT.
+"""
+
+import argparse
+import subprocess
+import sys
+import time
+from collections import Counter
+from pathlib import Path
+from random import Random
+
+from tests.reference.cases import maxcll, title, word
+from tests.reference.content_light import ENDS
+from tests.reference.light import light_of_code
+from tests.reference.row import PIXEL_BYTES, WIDEST, pixels_of, samples_of
+from tests.reference.samples import draw_measured_row, draw_palette, draw_row, with_bad_samples
+from tests.reference.vectors import converted, measured, record_answer, record_line, record_question
+
+BUILT = Path(__file__).resolve().parents[2] / "target" / "bin"
+FULL = {"titles": 60_000, "records": 60_000}
+SHORT = {"titles": 1_500, "records": 4_000}
+CHEAP = 64                               # pixels that are converted as well, every fourth title
+BATCH = 2_000                            # records of one run
+PATIENCE = 60                            # seconds that a run may take before it counts as hanging
+
+ANSWERS = {"measured", *(f"refused {number}" for number in (1, 2, 3, 4, 9, 10, 11, 12))}
+RECORD_ANSWERS = {"accepted", *(f"refused {number}" for number in (6, 9, 12, 13))}
+
+
+class Difference(Exception):
+    """A program and the second implementation disagree."""
+
+
+def draw_card(random):
+    """A card: mostly sound, else with an unknown bit or a field out of range."""
+    bits, lot = random.randrange(8), random.random()
+    fields = [random.choice((1, 1_000, 10_000, random.randint(1, 10_000))) for bit in (1, 2) if bits & bit]
+    if lot < 0.03:
+        bits |= random.choice((8, 16, 32, 64, 128))
+    elif lot < 0.07 and fields:
+        fields[random.randrange(len(fields))] = random.choice((0, 10_001, 65_535))
+    return bytes([bits]) + b"".join(map(word, fields))
+
+
+def draw_width(random):
+    """A width: mostly small, now and then the widest or a refused one."""
+    lot = random.random()
+    if lot < 0.03:
+        return random.choice((0, WIDEST + 1, 65_535))
+    if lot < 0.035:
+        return random.choice((WIDEST - 1, WIDEST))
+    return random.randint(100, 400) if lot < 0.06 else random.randint(1, 9)
+
+
+def draw_title(random):
+    """A title. Rows are drawn from few codes, so that their brightest pixels are often equal."""
+    card, width = draw_card(random), draw_width(random)
+    codes = random.choice((*[draw_palette(random)] * 4, *[range(4, 940)] * 3, range(4, 65), range(930, 1_020)))
+    rows = [draw_row(random, codes, width if width <= WIDEST else 1) for _ in range(random.choice((0, 1, 2, 3, 5, 8, 30) if width < 10 else (1, 2)))]
+    lot = random.random()
+    if rows and width and lot < 0.15:
+        at = random.randrange(len(rows))
+        rows[at] = with_bad_samples(random, rows[at])
+    data = title(card, width, *rows)
+    if rows and width and 0.10 < lot < 0.22:
+        return data[:-random.randrange(1, len(rows[-1]))]
+    return data[:random.randrange(len(card) + 2)] if lot > 0.95 else data
+
+
+def run(built, name, data):
+    """What a program prints; its end must be quiet."""
+    done = subprocess.run([built / name], input=data, capture_output=True, timeout=PATIENCE)
+    if done.returncode or done.stderr:
+        raise Difference(f"{name} ended with {done.returncode} and said {done.stderr!r} on {shown(data)}")
+    return done.stdout
+
+
+def shown(data):
+    """A title in words, cut where it is long."""
+    return f"{len(data)} bytes {data[:400].hex(' ', 2)}"
+
+
+def hold(built, name, data, owed):
+    """Fails unless a program prints what it owes."""
+    given = run(built, name, data)
+    if given != owed:
+        raise Difference(f"{name} printed {given[-200:]!r}, should be {owed[-200:]!r}, on {shown(data)}")
+
+
+def opening_length(data):
+    """Bytes of the card and the width of a sound title."""
+    return 3 + 2 * (data[0] & 1) + (data[0] & 2)
+
+
+def brightest(data):
+    """How many pixels of a sound title have its largest light."""
+    lights = [max(map(light_of_code, pixel)) for pixel in pixels_of(samples_of(data[opening_length(data):]))]
+    return lights.count(max(lights))
+
+
+def compare_titles(random, count, built):
+    """Titles through `measure`, the cheap ones also through `convert`; half of these with the measured peak on the card."""
+    seen, equal, conversions, pixels = Counter(), 0, 0, 0
+    for number in range(count):
+        data = draw_title(random)
+        owed = measured(data)
+        hold(built, "measure", data, owed)
+        refused = owed.startswith(b"refused")
+        seen[owed.decode().strip() if refused else "measured"] += 1
+        if not refused:
+            equal += brightest(data) > 1
+            pixels += (len(data) - opening_length(data)) // PIXEL_BYTES
+        if number % 4 == 0 and len(data) <= PIXEL_BYTES * CHEAP:
+            peak = 0 if refused else int(owed.split()[0])
+            if peak and number % 8 == 0:
+                data = maxcll(peak) + data[opening_length(data) - 2:]
+            hold(built, "convert", data, converted(data))
+            conversions += 1
+    print(f"titles: {count:,} measured as they should be, {pixels:,} pixels; {counts(seen)}; of those measured {equal:,} have several brightest "
+          f"pixels; {conversions:,} converted too")
+    if set(seen) != ANSWERS:
+        raise Difference(f"titles: not every answer occurred, but {sorted(seen)}")
+    if 3 * equal < seen["measured"]:
+        raise Difference(f"titles: equal brightest pixels are rare, {equal} of {seen['measured']}")
+
+
+def draw_field(random, end):
+    """A field of a record: in its range, at its ends, past it."""
+    return random.choice((0, 1, random.randint(0, min(end, 200)), random.randint(0, end), end - 1, end, end + 1, end + random.randrange(2**32),
+                          random.randrange(2**64), 2**64 - 1))
+
+
+def draw_record(random, codes):
+    """Five fields; the position often at or beside that of one of the row's codes, the rows seldom at their end."""
+    rows, pixels, position, row, pixel = (draw_field(random, end) for end in ENDS)
+    if random.random() < 0.7:
+        position = max(0, 1_024 * (min(max(random.choice(codes), 64), 940) - 64) + random.choice((-1, 0, 0, 0, 1)))
+    if random.random() < 0.7:
+        rows = random.randrange(1_000)
+    return rows, random.choice((pixels, 0, 1)), position, row, pixel
+
+
+def draw_question(random):
+    """A record and a row, which may be refused."""
+    codes = draw_palette(random)
+    return draw_record(random, codes), draw_measured_row(random, codes, random.choice((0, 1, 1, 2, 4, 7)))
+
+
+def compare_records(random, count, built):
+    """Records and rows through the test program of the record's calls."""
+    seen, left = Counter(), count
+    while left:
+        questions = [draw_question(random) for _ in range(min(BATCH, left))]
+        given = run(built, "record_vectors", b"".join(record_question(*question) for question in questions)).decode().splitlines()
+        for question, line in zip(questions, [*given, *[None] * (len(questions) - len(given))]):
+            owed = record_answer(*question)
+            if line != owed:
+                raise Difference(f"record_vectors answered {line!r}, should be {owed!r}: {record_line(*question, '')}")
+            for part in owed.split(" : "):
+                seen[" ".join(part.split()[:2]) if part.startswith("refused") else "accepted"] += 1
+        left -= len(questions)
+    print(f"records: {count:,} answered as they should be, each by both calls; {counts(seen)}")
+    if set(seen) != RECORD_ANSWERS:
+        raise Difference(f"records: not every answer occurred, but {sorted(seen)}")
+
+
+def counts(seen):
+    """How often each answer came."""
+    return ", ".join(f"{name}: {times:,}" for name, times in sorted(seen.items()))
+
+
+def main(arguments):
+    parser = argparse.ArgumentParser(description=__doc__.split("\n")[0])
+    parser.add_argument("seed", type=int, nargs="?", default=1, help="what is drawn by lot (1)")
+    parser.add_argument("--short", action="store_true", help="the gate's sample instead of everything")
+    parser.add_argument("--built", type=Path, default=BUILT, help="the folder of the built programs")
+    options = parser.parse_args(arguments)
+    sizes, start = SHORT if options.short else FULL, time.monotonic()
+    built = options.built.resolve()
+    for name in ("measure", "convert", "record_vectors"):
+        if not (built / name).exists():
+            sys.exit(f"{built / name} is not there: rt check builds it")
+    try:
+        compare_titles(Random(f"titles {options.seed}"), sizes["titles"], built)
+        compare_records(Random(f"records {options.seed}"), sizes["records"], built)
+    except Difference as found:
+        print(f"DIFFERENT: {found}")
+        return 1
+    print(f"seed {options.seed}, {time.monotonic() - start:.0f} s")
+    return 0
+
+
+if __name__ == "__main__":
+    sys.exit(main(sys.argv[1:]))
