@@ -9,9 +9,10 @@ wrong. The files of a request's note are left out: a note tells of its day.
     crates             crates.txt, the folders, docs/CHECK.md and docs/MUST-FAIL.md have the same
     definitions        docs/READING.md names each file of specs/
     paths              each file, module, law and function that a document cites is there
-    refusals           README.md (the program), include/pq_hlg.h (the row call), docs/READING.md and the second implementation have the same numbers
+    refusals           README.md (the programs), include/pq_hlg.h (the row call), docs/READING.md (all, and the order of the measuring run's) and the
+                       second implementation have the same numbers
     interface          PQ_HLG_ABI, CHANGELOG.md and tests/host/pq_hlg.rs name one version
-    sample             README.md shows the bytes of samples/glint.title, their samples and the lines of samples/glint.codes
+    sample             README.md shows the bytes of samples/glint.title, their samples, the lines of samples/glint.codes and that of samples/glint.peak
 """
 import re
 import sys
@@ -22,10 +23,12 @@ CRATES = ROOT / "crates"
 DOCUMENTS = sorted([*ROOT.glob("*.md"), *ROOT.glob("docs/*.md"), *ROOT.glob("tests/*/README.md"), ROOT / "bench/README.md"])
 FOLDERS = ("crates", "docs", "tools", "tests", "include", "samples", "bench", ".ci")
 
-# the scope's lists (What stops a call), in the order of the tests
-PROGRAM = [1, 2, 3, 4, 10, 11, 9]
+# the lists of the scope (What stops a call) and of request 01, in the order of the tests
+CONVERT = [1, 2, 3, 4, 10, 11, 9]
+PROGRAMS = {"A title": CONVERT, "The peak of a title": [*CONVERT, 12]}       # by the section of README.md: `convert`, `measure`
 ROW_CALL = [5, 6, 7, 8, 9]
-ALL = set(PROGRAM) | set(ROW_CALL)
+MEASURING_RUN = {"measure_row": [13, 6, 9], "measured_peak": [12]}
+ALL = {number for refusals in (*PROGRAMS.values(), ROW_CALL, *MEASURING_RUN.values()) for number in refusals}
 
 faults, held = [], 0
 
@@ -184,14 +187,20 @@ def numbers(text):
 
 
 def check_refusals():
-    program = [int(row["refused"]) for row in tables(read("README.md")) if "refused" in row]
-    expect(program == PROGRAM, f"README.md's table of refusals has {program}, the program tests {PROGRAM}")
+    named = sections(read("README.md"))
+    for heading, refusals in PROGRAMS.items():
+        told = [n for row in tables(named.get(heading, "")) if "refused" in row for n in numbers(row["refused"])]
+        expect(told == refusals, f"README.md's table of refusals under `{heading}` has {told}, the program tests {refusals}")
     row_call = [int(number) for number in re.findall(r"^ +(\d+)  \S", read("include/pq_hlg.h"), flags=re.M)]
     expect(row_call == ROW_CALL, f"include/pq_hlg.h has the refusals {row_call}, the row call tests {ROW_CALL}")
-    told = {n for row in tables(read("docs/READING.md")) if "refusal" in row for n in numbers(row["refusal"])}
-    expect(told == ALL, f"docs/READING.md's table of refusals has {sorted(told)}, the scope {sorted(ALL)}")
+    rows = [row for row in tables(read("docs/READING.md")) if "refusal" in row]
+    told = {n for row in rows for n in numbers(row["refusal"])}
+    expect(told == ALL, f"docs/READING.md's table of refusals has {sorted(told)}, the scope and the requests {sorted(ALL)}")
+    for call, refusals in MEASURING_RUN.items():
+        told = [n for row in rows if call in quoted(row["promised by"]) for n in numbers(row["refusal"])]
+        expect(told == refusals, f"docs/READING.md's table of refusals has {told} promised by `{call}`, which tests {refusals}")
     raised = {int(n) for path in (ROOT / "tests/reference").glob("*.py") for n in re.findall(r"\bRefused\((\d+)", path.read_text(encoding="utf-8"))}
-    expect(raised == ALL, f"tests/reference raises the refusals {sorted(raised)}, the scope has {sorted(ALL)}")
+    expect(raised == ALL, f"tests/reference raises the refusals {sorted(raised)}, the scope and the requests have {sorted(ALL)}")
 
 
 def check_interface():
@@ -212,6 +221,7 @@ def check_sample():
         expect(row["PQ in"] == told, f"README.md reads the bytes {row['bytes']} as {row['PQ in']}, they are {told}")
     codes = [row["HLG out"] for row in rows if row["HLG out"]]
     expect(codes == read("samples/glint.codes").splitlines(), "README.md does not show the codes of samples/glint.codes")
+    expect(read("samples/glint.peak").strip() in quoted(read("README.md")), "README.md does not show the line of samples/glint.peak")
 
 
 def main():
