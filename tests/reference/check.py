@@ -427,6 +427,12 @@ def measured_lists():
 
 
 def measured_records():
+    most = content_light.Record(4_294_967_295, 35_184_372_080_640, 897_024, 4_294_967_294, 8_191)
+    yield "the ends of a record's ranges", content_light.ENDS == most
+    two = row_bytes(grey(64), grey(64))
+    for pixels in (0, most.pixels - 3, most.pixels - 2, most.pixels - 1, 2**64 - 1):
+        yield f"{pixels} pixels and two more", (
+            content_light.measure_row(content_light.Record(pixels=pixels), two).pixels == min(pixels + 2, most.pixels))
     random = Random(7)
     past = [end + more for end in content_light.ENDS for more in (0, 1)] + [2**32, 2**63, 2**64 - 1]
     for _ in range(300):
