@@ -15,7 +15,7 @@ use Rattle.content_light.specs.declared.RunRecord.{RunRecord}
 use Rattle.content_light.specs.declared.PeakAnswer.the-variants.{Peak, Refused}
 use Rattle.content_light.specs.declared.RecordAnswer.the-variants as answer
 use Rattle.content_light.specs.Peak.{mostRows, rowTest, acceptedRows, outshines, after, afterPixels, afterRows, roundedUp, peakOf, measured}
-use Rattle.content_light.specs.Run.{recordRead, withRow, recordAnswer}
+use Rattle.content_light.specs.Run.{recordAnswer}
 
 -- a row of one red pixel of that code
 abbrev rowOf : ℕ → List ℕ

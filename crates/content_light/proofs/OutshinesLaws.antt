@@ -4,11 +4,10 @@ use mathlib.Core.Bool.{true, false}
 use Prim.Native.Nat.{ℕ, _+_, _-_, _*_, _/_, _%_, _≤_, _<_}
 use native.Mathlib.Nat.{mul-le-mul-left}
 use native.Mathlib.Omega.{arith}
-use lib.Dec.{ltb}
 use borrow.Author.Tests.{ltb-true, ltb-false, lt-ltb, le-ltb}
 use Rattle.pq.specs.LightTable.{lightEntry}
 use Rattle.pq.proofs.EntryLaws.{entries-grow, entries-grow-strictly}
-use Rattle.position.specs.Position.{codeIndex, codePosition, lightAt}
+use Rattle.position.specs.Position.{codeIndex, lightAt}
 use Rattle.position.proofs.LightLaws.{light-grows, light-at-entry, code-position}
 use Rattle.content_light.specs.Peak.{outshines}
 use Rattle.content_light.specs.Bounds.{OfCode}

@@ -1,12 +1,11 @@
 -- A measured peak: the least whole number of cd/m2 that no pixel of the accepted rows exceeds. Under it, from 1 up, the row call converts each of these
 -- rows, and no pixel is cut at the peak's position.
 use mathlib.Core.Path.{_≡_, refl, sym, ap, subst, _∙_}
-use mathlib.Core.Bool.{false, not}
+use mathlib.Core.Bool.{false}
 use mathlib.Core.List.{List, [], _∷_}
-use Prim.Native.Nat.{ℕ, zero, suc, pred, min, max, _+_, _*_, _-_, _/_, _%_, _≤_, _<_}
+use Prim.Native.Nat.{ℕ, zero, suc, _*_, _-_, _/_, _≤_, _<_}
 use native.Mathlib.Nat.{le-trans}
 use native.Mathlib.Omega.{arith}
-use lib.Dec.{eqb, ltb}
 use lib.ListN.{length}
 use borrow.Author.Tests.{eq-eqb, ne-eqb, le-ltb}
 use Rattle.quantity.specs.Units.{units, tenThousand}
@@ -23,7 +22,7 @@ use Rattle.rows.specs.Answer.{firstRefused, lengthRefused, destinationRefused, 
 use Rattle.rows.proofs.AnswerLaws.{length-taken}
 use Rattle.pq_hlg.specs.Pixel.{peakRefused, sampleRefused}
 use Rattle.pq_hlg.specs.Row.{rowAnswer, sourceOf}
-use Rattle.content_light.specs.declared.PeakAnswer.the-variants.{Peak, Refused}
+use Rattle.content_light.specs.declared.PeakAnswer.the-variants.{Peak}
 use Rattle.content_light.specs.Peak.{Test, accepted, refused, rowTest, counted, kept, acceptedRows, lightOf, Brightest, none, found, brightestPixel}
 use Rattle.content_light.specs.Peak.{roundedUp, peakOf, measured}
 use Rattle.content_light.proofs.RangeLaws.{taken}

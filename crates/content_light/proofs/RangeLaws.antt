@@ -14,7 +14,7 @@ use Rattle.rows.specs.Answer.{firstRefused, lengthRefused}
 use Rattle.rows.proofs.AnswerLaws.{length-taken}
 use Rattle.pq_hlg.specs.Pixel.{sampleRefused}
 use Rattle.content_light.specs.declared.RunRecord.{RunRecord}
-use Rattle.content_light.specs.Peak.{mostRows, Test, accepted, refused, rowTest}
+use Rattle.content_light.specs.Peak.{mostRows, accepted, refused, rowTest}
 use Rattle.content_light.specs.Run.{mostPixels, recordRead, freshRecord, takesOver, withPixel, withPixels, withRow}
 use Rattle.content_light.proofs.RecordLaws.{most-rows, rows-kept, position-within, chosen}
 

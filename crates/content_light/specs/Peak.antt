@@ -1,6 +1,6 @@
 -- The measured peak of a title's rows (request 01): which rows are accepted, the first pixel that has the largest component light of all their
 -- pixels, and the peak, that light in whole cd/m2. A row is a list of bytes; light is in units; rows and pixels are counted from 0.
-use Prim.Native.Nat.{ℕ, zero, suc, pred, _+_, _*_, _/_}
+use Prim.Native.Nat.{ℕ, zero, suc, pred, _+_, _/_}
 use mathlib.Core.Bool.{Bool, cond}
 use mathlib.Core.List.{List, [], _∷_}
 use lib.Dec.{leb, ltb}

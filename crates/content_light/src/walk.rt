@@ -4,7 +4,7 @@ ghost use mathlib.Core.Path.{_≡_};
 ghost use Prim.Native.Nat.{suc, min, _/_, _%_, _≤_, _<_};
 ghost use lib.ListN.{length};
 ghost use Rattle.quantity.specs.Units.{lastPosition};
-ghost use Rattle.position.specs.Position.{lightAt, codePosition};
+ghost use Rattle.position.specs.Position.{lightAt};
 ghost use Rattle.pixel.specs.Conversion.{brightestPosition};
 ghost use Rattle.rows.specs.Row.{pixelAt};
 ghost use Rattle.rows.specs.Answer.{firstRefused};

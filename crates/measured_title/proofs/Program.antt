@@ -1,6 +1,6 @@
 -- The program over lists, as `measure_title` has it, and that it prints a title's line. A read of n bytes gives the next n, or as many as there are; each
 -- call of a function on slices stands as the definition that its contract promises. What is printed is one list.
-use Prim.Native.Nat.{ℕ, zero, suc, _*_, _/_, _-_, _≤_, _<_}
+use Prim.Native.Nat.{ℕ, zero, suc, _*_, _-_, _≤_, _<_}
 use mathlib.Core.Bool.{cond}
 use mathlib.Core.List.{List, [], _∷_}
 use mathlib.Core.Path.{_≡_, refl, sym, ap, _∙_}
@@ -13,13 +13,12 @@ use Rattle.content_light.specs.declared.RunRecord.{RunRecord}
 use Rattle.content_light.specs.declared.PeakAnswer.{PeakAnswer}
 use Rattle.content_light.specs.declared.PeakAnswer.the-variants as result
 use Rattle.content_light.specs.Peak.{Test, accepted, refused, rowTest, acceptedRows, afterRows, peakOf, measured}
-use Rattle.content_light.specs.Run.{freshRecord, withRow, answerAfter, recordAnswer, held, peakAnswer}
+use Rattle.content_light.specs.Run.{freshRecord, withRow, held, peakAnswer}
 use Rattle.content_light.proofs.RangeLaws.{InRange, fresh-in-range, read-same, taken, in-range-row}
 use Rattle.content_light.proofs.RunLaws.{answered, held-row, rows-of-row}
-use Rattle.listing.specs.Text.{lineWithin, refusalLine, refusalLineWithin}
+use Rattle.listing.specs.Text.{lineWithin, refusalLineWithin}
 use Rattle.title.specs.declared.opening.Opening.{Opening}
 use Rattle.title.specs.declared.opening.Opening.the-variants as opening
-use Rattle.title.specs.declared.row_bytes.RowBytes.{RowBytes}
 use Rattle.title.specs.declared.row_bytes.RowBytes.the-variants as came
 use Rattle.title.specs.Opening.{openingAnswer, rowsOf}
 use Rattle.title.specs.Rows.{rowBytes, titleRows}

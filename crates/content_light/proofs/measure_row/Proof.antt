@@ -1,16 +1,15 @@
 -- `content_light::measure_row` meets its contract: 13, 6 and 9 in order, then the record with the row in it.
-use mathlib.Core.Path.{_≡_, sym, ap, subst, _∙_}
+use mathlib.Core.Path.{_≡_, sym, ap, _∙_}
 use mathlib.Core.Bool.{false}
-use Prim.Native.Nat.{ℕ, min, _/_, _%_, _≤_, _<_}
+use Prim.Native.Nat.{_<_}
 use native.Mathlib.Omega.{arith}
 use borrow.Author.Needs.{needs}
 use lib.ListN.{length}
-use Rattle.quantity.specs.Units.{lastPosition}
 use Rattle.rows.specs.Answer.{lengthRefused}
 use Rattle.rows.proofs.AnswerLaws.{length-taken}
 use Rattle.content_light.specs.declared.RunRecord.{RunRecord}
 use Rattle.content_light.specs.Peak.{mostRows}
-use Rattle.content_light.specs.Run.{mostPixels, recordRead, withRow}
+use Rattle.content_light.specs.Run.{withRow}
 use Rattle.content_light.proofs.BoundLaws.{from-zero}
 use Rattle.content_light.proofs.RecordLaws.{most-rows}
 use Rattle.content_light.proofs.AnswerLaws.{all-counted, length-told, sample-told, counted-in}

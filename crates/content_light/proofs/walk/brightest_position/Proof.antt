@@ -1,6 +1,5 @@
 -- `content_light::walk::brightest_position` meets its contract.
 use mathlib.Core.Path.{_∙_, ap}
-use Prim.Native.Nat.{ℕ, max}
 use native.Mathlib.Omega.{arith}
 use borrow.Author.Needs.{needs}
 use Rattle.position.specs.Position.{codePosition}

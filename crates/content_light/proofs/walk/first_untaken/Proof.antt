@@ -1,11 +1,9 @@
 -- `content_light::walk::first_untaken` meets its contract: by the search, or by the bounds.
-use mathlib.Core.Path.{sym, ap, _∙_}
-use Prim.Native.Nat.{ℕ, min, _-_, _/_}
+use mathlib.Core.Path.{sym, _∙_}
+use Prim.Native.Nat.{_-_, _/_}
 use native.Mathlib.Omega.{arith}
 use borrow.Author.Needs.{needs}
 use lib.ListN.{length}
-use Rattle.rows.specs.Answer.{firstRefused}
-use Rattle.pq_hlg.specs.Pixel.{sampleRefused}
 use Rattle.content_light.proofs.BoundLaws.{all-taken, whole-search}
 use Rattle.content_light.proofs.walk.first_untaken.Statement.{statement}
 use Rattle.content_light.proofs.walk.first_untaken.Tie as tie

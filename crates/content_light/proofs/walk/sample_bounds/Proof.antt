@@ -1,6 +1,6 @@
 -- `content_light::walk::sample_bounds` meets its contract. The invariant: the bounds hold for the pixels before j. The measure is the pixels left.
 use mathlib.Core.Path.{_≡_, subst, _∙_}
-use Prim.Native.Nat.{ℕ, max, min, _+_, _*_, _-_, _/_, _≤_}
+use Prim.Native.Nat.{ℕ, _+_, _*_, _-_, _/_, _≤_}
 use native.Mathlib.Omega.{arith}
 use borrow.Author.Needs.{needs}
 use lib.ListN.{length}

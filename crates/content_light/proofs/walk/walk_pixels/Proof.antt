@@ -1,6 +1,6 @@
 -- `content_light::walk::walk_pixels` meets its contract. The invariant: the record holds the pixels before j. The measure is the pixels left.
 use mathlib.Core.Path.{_≡_, sym, ap, subst, _∙_}
-use Prim.Native.Nat.{ℕ, _+_, _-_, _/_, _≤_}
+use Prim.Native.Nat.{_-_, _/_, _≤_}
 use native.Mathlib.Omega.{arith}
 use borrow.Author.Needs.{needs}
 use lib.ListN.{length}
