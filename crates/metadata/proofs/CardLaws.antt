@@ -104,27 +104,32 @@ or-false : (a b : Bool) → (a || b) ≡ false → (a ≡ false) × (b ≡ false
 or-false true b h = absurd (true≢false h)
 or-false false b h = (refl, h)
 
-in-range : (v : ℕ) → outOfRange v ≡ false → (1 ≤ v) × (v ≤ 10000)
+-- A luminance from 1 to 10,000 cd/m2.
+abbrev InRange : ℕ → Type 0
+InRange v = (1 ≤ v) × (v ≤ 10000)
+
+field-in-range : (standing : Bool) (v : ℕ) → (standing && outOfRange v) ≡ false → standing ≡ true → InRange v
 unfolding outOfRange
-in-range v h =
+field-in-range true v h e =
     let p = or-false _ _ h in
     let low = eqb-false v 0 (p .0) in
     let high = ltb-false 10000 v (p .1) in
     omega arith
+field-in-range false v h e = absurd (true≢false (sym e))
 
-chosen : (a b d : Bool) (x y : ℕ) → ((a && outOfRange x) || (b && outOfRange y)) ≡ false
-    → (1 ≤ cond a x (cond b y (cond d 10000 4000))) × (cond a x (cond b y (cond d 10000 4000)) ≤ 10000)
-chosen true b d x y h = in-range x (or-false (outOfRange x) _ h .0)
-chosen false true d x y h = in-range y h
-chosen false false true x y h = omega arith
-chosen false false false x y h = omega arith
+chosen : {b : Bool} {x next : ℕ} → (b ≡ true → InRange x) → InRange next → InRange (cond b x next)
+chosen {b = true} h n = h refl
+chosen {b = false} h n = n
 
 -- The peak of an accepted card lies from 1 to 10,000, so that refusal 5 never meets it.
 pub peak-in-range : (card : List ℕ) {source : Source} → cardAnswer card ≡ Declared source → (1 ≤ source .peak) × (source .peak ≤ 10000)
 unfolding peak fieldOutOfRange
 peak-in-range card h =
     let a = accepted card h in
-    rw (a .2) (chosen (stands 0 card) (stands 1 card) (stands 2 card) (maxCLL card) (masteringPeak card) (a .1))
+    let fields = or-false (stands 0 card && outOfRange (maxCLL card)) _ (a .1) in
+    let unconstrained = chosen {b = stands 2 card} {x = 10000} {next = 4000} (λ e. omega arith) (omega arith) in
+    let mastering = chosen (field-in-range (stands 1 card) (masteringPeak card) (fields .1)) unconstrained in
+    rw (a .2) (chosen (field-in-range (stands 0 card) (maxCLL card) (fields .0)) mastering)
 
 -- What follows an accepted card begins after its bytes.
 pub after-card : (card : List ℕ) {source : Source} → cardAnswer card ≡ Declared source → following card ≡ drop (cardBytes card) card
@@ -140,13 +145,11 @@ pub at-most-five : (card : List ℕ) → cardBytes card ≤ 5
 unfolding cardBytes
 at-most-five card = omega arith
 
-where-standing : (stands : Bool) (x y : ℕ) → (stands ≡ true → x ≡ y) → (stands && outOfRange x) ≡ (stands && outOfRange y)
-where-standing true x y h = ap outOfRange (h refl)
-where-standing false x y h = refl
-
-where-chosen : (stands : Bool) (x y : ℕ) {z w : ℕ} → (stands ≡ true → x ≡ y) → z ≡ w → cond stands x z ≡ cond stands y w
-where-chosen true x y h e = h refl
-where-chosen false x y h e = e
+-- What reads a field only where its bit stands.
+where-standing : {A : Type 0} (f : Bool → ℕ → A) (standing : Bool) {x y : ℕ} → (standing ≡ true → x ≡ y) → f false x ≡ f false y
+    → f standing x ≡ f standing y
+where-standing f true h e = ap (f true) (h refl)
+where-standing f false h e = e
 
 -- Bytes that come after those of a card.
 module _ (card more : List ℕ) where
@@ -187,17 +190,19 @@ module _ (card more : List ℕ) where
     same-fields : fieldOutOfRange (card ++ more) ≡ fieldOutOfRange card
     unfolding fieldOutOfRange
     same-fields =
-        let first = where-standing (stands 0 card) (maxCLL (card ++ more)) (maxCLL card) same-max-cll in
-        let second = where-standing (stands 1 card) (masteringPeak (card ++ more)) (masteringPeak card) same-mastering-peak in
+        let refused : Bool → ℕ → Bool = λ standing value. standing && outOfRange value in
+        let first = where-standing refused (stands 0 card) same-max-cll refl in
+        let second = where-standing refused (stands 1 card) same-mastering-peak refl in
         rw (← first, ← second) (rw (same-map some-byte))
 
     same-peak : peak (card ++ more) ≡ peak card
     unfolding peak
     same-peak =
         let last : ℕ = cond (stands 2 card) 10000 4000 in
-        let second = where-chosen (stands 1 card) (masteringPeak (card ++ more)) (masteringPeak card) {z = last} same-mastering-peak refl in
-        let first = where-chosen (stands 0 card) (maxCLL (card ++ more)) (maxCLL card) same-max-cll second in
-        rw (← first) (rw (same-map some-byte))
+        let mastering : ℕ = cond (stands 1 card) (masteringPeak card) last in
+        let second = where-standing (λ standing value. cond standing value last) (stands 1 card) same-mastering-peak refl in
+        let first = where-standing (λ standing value. cond standing value mastering) (stands 0 card) same-max-cll refl in
+        rw (← first, ← second) (rw (same-map some-byte))
 
   -- A card that wants no byte answers the same whatever comes after it.
   pub settled : cardWants card ≡ 0 → cardAnswer (card ++ more) ≡ cardAnswer card
