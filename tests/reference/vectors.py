@@ -129,12 +129,23 @@ def record_line(record, row, given):
     return f"{' '.join(map(str, record))} {'+'.join(digits(part[0]) for part in parts) or '-'} {given}"
 
 
-def card_line(data):
-    """`bytes peak PEAK LENGTH`, the length of what follows the card, or `bytes refused NUMBER`."""
+def card_answer(data):
+    """`peak PEAK` or `refused NUMBER`, then how many bytes follow the card."""
     try:
-        return f"{digits(data)} peak {peak_of_metadata(data)} {len(after_metadata(data))}"
+        given = f"peak {peak_of_metadata(data)}"
     except Refused as refused:
-        return f"{digits(data)} refused {refused.number}"
+        given = f"refused {refused.number}"
+    return f"{given} {len(after_metadata(data))}"
+
+
+def card_question(data):
+    """The number of bytes in one byte, the bytes."""
+    return bytes([len(data)]) + data
+
+
+def card_line(data, given):
+    """The bytes, then the answer."""
+    return f"{digits(data)} {given}"
 
 
 def printed(program, data, most_rows):
@@ -159,12 +170,12 @@ def lines(each):
     return "".join(line + "\n" for line in dict.fromkeys(each)).encode()
 
 
-def vector_files(pixels, measured_rows):
+def vector_files(pixels, measured_rows, answered_cards):
     """Every file of tests/vectors: its path and its bytes."""
     yield f"{FOLDER}/pixels.txt", lines(pixel_line(*case, given) for case, given in pixels.items())
     yield f"{FOLDER}/records.txt", lines(record_line(*case, given) for case, given in measured_rows.items())
     yield f"{FOLDER}/rows.txt", lines(row_line(*case) for case in row_calls())
-    yield f"{FOLDER}/cards.txt", lines(map(card_line, cards()))
+    yield f"{FOLDER}/cards.txt", lines(card_line(*case, given) for case, given in answered_cards.items())
     for name, data in titles():
         yield f"{FOLDER}/convert/{name}.in", data
         yield f"{FOLDER}/convert/{name}.out", converted(data)
@@ -174,7 +185,7 @@ def vector_files(pixels, measured_rows):
         yield f"{FOLDER}/measure/{name}.out", measured(data)
 
 
-def programs(pixels, measured_rows):
+def programs(pixels, measured_rows, answered_cards):
     """What each program is run on: its crate, its input and the output that it owes."""
     sample = dict(titles())["sample"]
     yield "convert", sample, converted(sample)
@@ -185,7 +196,8 @@ def programs(pixels, measured_rows):
     # two rows and a brighter third
     brighter = dict(measured_titles())["three_rows_brightest_last"]
     yield "measure_limit", brighter, measured(brighter, 2)
-    for crate, question, cases in (("pixel_vectors", pixel_question, pixels), ("record_vectors", record_question, measured_rows)):
+    for crate, question, cases in (("pixel_vectors", pixel_question, pixels), ("record_vectors", record_question, measured_rows),
+                                   ("card_vectors", card_question, answered_cards)):
         yield crate, b"".join(question(*case) for case in cases), "".join(given + "\n" for given in cases.values()).encode()
 
 
@@ -203,8 +215,9 @@ def files():
     """Every stored file: its path in the repository and its bytes."""
     pixels = {case: answer(convert_pixel, *case) for case in pixel_cases()}
     measured_rows = {case: record_answer(*case) for case in records()}
-    yield from vector_files(pixels, measured_rows)
-    yield from program_files(pixels, measured_rows)
+    answered_cards = {(data,): card_answer(data) for data in cards()}
+    yield from vector_files(pixels, measured_rows, answered_cards)
+    yield from program_files(pixels, measured_rows, answered_cards)
 
 
 def differences(stored):

@@ -1,0 +1,54 @@
+// The card's calls over stored questions on standard input: the number of bytes in one byte, then the bytes, which open with a card. The answer is a
+// line: the peak or the refusal, then how many bytes follow the card.
+use big_endian::byte_at;
+use libc::STDIN_FILENO;
+use libc::STDOUT_FILENO;
+use metadata::SourceAnswer;
+use metadata::after_metadata;
+use metadata::source_of_metadata;
+
+fn print_source(answer: SourceAnswer) -> bool {
+    match answer {
+        SourceAnswer::Declared(source) => {
+            io::write_all(STDOUT_FILENO, b"peak ") && io::print_decimal(STDOUT_FILENO, source.peak)
+        }
+        SourceAnswer::Refused(number) => {
+            io::write_all(STDOUT_FILENO, b"refused ") && io::print_decimal(STDOUT_FILENO, number)
+        }
+    }
+}
+
+fn print_length(bytes: &[u8]) -> bool {
+    io::write_all(STDOUT_FILENO, b" ")
+        && io::print_decimal(STDOUT_FILENO, bytes.len() as u64)
+        && io::write_all(STDOUT_FILENO, b"\n")
+}
+
+// One question and its answer; false at the end of the input, which may cut a question short, and after a failed write.
+fn answer_next() -> bool {
+    let mut length = [0u8; 1];
+    let got = io::read_full(STDIN_FILENO, &mut length);
+    if got != 1 {
+        return false;
+    }
+    // as many as one byte can count
+    let mut card = [0u8; 255];
+    let bytes = byte_at(&length, 0) as usize;
+    answer(&mut card[..bytes])
+}
+
+fn answer(card: &mut [u8]) -> bool {
+    let got = io::read_full(STDIN_FILENO, card);
+    if got != card.len() {
+        return false;
+    }
+    print_source(source_of_metadata(card)) && print_length(after_metadata(card))
+}
+
+fn main() {
+    // more than are stored: the limit is there so that the loop ends on any input
+    let mut questions: u64 = 1000000;
+    while questions > 0 && answer_next() {
+        questions -= 1;
+    }
+}
