@@ -36,13 +36,13 @@ class Difference(Exception):
 
 
 def draw_card(random):
-    """A card: mostly sound, else with an unknown bit or a field out of range."""
+    """A card: mostly sound, a field of 0 among the others, else with an unknown bit or a field out of range."""
     bits, lot = random.randrange(8), random.random()
-    fields = [random.choice((1, 1_000, 10_000, random.randint(1, 10_000))) for bit in (1, 2) if bits & bit]
+    fields = [random.choice((0, 1, 1_000, 10_000, random.randint(1, 10_000))) for bit in (1, 2) if bits & bit]
     if lot < 0.03:
         bits |= random.choice((8, 16, 32, 64, 128))
     elif lot < 0.07 and fields:
-        fields[random.randrange(len(fields))] = random.choice((0, 10_001, 65_535))
+        fields[random.randrange(len(fields))] = random.choice((10_001, 65_535))
     return bytes([bits]) + b"".join(map(word, fields))
 
 
@@ -115,9 +115,8 @@ def compare_titles(random, count, built):
             equal += brightest(data) > 1
             pixels += (len(data) - opening_length(data)) // PIXEL_BYTES
         if number % 4 == 0 and len(data) <= PIXEL_BYTES * CHEAP:
-            peak = 0 if refused else int(owed.split()[0])
-            if peak and number % 8 == 0:
-                data = maxcll(peak) + data[opening_length(data) - 2:]
+            if not refused and number % 8 == 0:
+                data = maxcll(int(owed.split()[0])) + data[opening_length(data) - 2:]
             hold(built, "convert", data, converted(data))
             conversions += 1
     print(f"titles: {count:,} measured as they should be, {pixels:,} pixels; {counts(seen)}; of those measured {equal:,} have several brightest "

@@ -46,23 +46,21 @@ def refused_cards():
     yield "card_cut_after_maxcll", b"\x03\x03\xe8"
     yield "card_cut_in_second_field", b"\x03\x03\xe8\x0f"
     yield "card_cut_after_maxcll_zero", b"\x03\x00\x00"
+    yield "card_cut_after_maxcll_10001", b"\x03\x27\x11"
     yield "unconstrained_card_cut_in_maxcll", b"\x05\x27"
-    yield "maxcll_zero", maxcll(0) + good
     yield "maxcll_10001", maxcll(10_001) + good
     yield "maxcll_65535", maxcll(65_535) + good
-    yield "mastering_peak_zero", b"\x02" + word(0) + good
     yield "mastering_peak_10001", b"\x02" + word(10_001) + good
-    yield "mastering_peak_zero_beside_maxcll", b"\x03" + word(1_000) + word(0) + good
     yield "mastering_peak_10001_beside_maxcll", b"\x03" + word(1_000) + word(10_001) + good
-    yield "maxcll_zero_beside_mastering_peak", b"\x03" + word(0) + word(1_000) + good
-    yield "maxcll_zero_unconstrained", b"\x05" + word(0) + good
-    yield "maxcll_zero_and_nothing_else", maxcll(0)
+    yield "mastering_peak_10001_beside_maxcll_zero", b"\x03" + word(0) + word(10_001) + good
+    yield "maxcll_10001_beside_mastering_peak_zero", b"\x03" + word(10_001) + word(0) + good
 
 
 def refused_widths():
     """Refusal 10."""
     yield "width_missing", DAMAGE_PEAK
     yield "width_missing_after_bit_map", b"\x00"
+    yield "width_missing_after_maxcll_zero", maxcll(0)
     yield "width_missing_low_byte", DAMAGE_PEAK + b"\x00"
     yield "width_missing_low_byte_of_8192", DAMAGE_PEAK + b"\x20"
     yield "width_zero", title(DAMAGE_PEAK, 0)
@@ -128,6 +126,17 @@ def named_peaks():
         ("maxcll_10000", maxcll(10_000)),
         ("mastering_peak_1", b"\x02" + word(1)),
         ("mastering_peak_10000", b"\x02" + word(10_000)),
+        # request 02: a field of 0 is not known
+        ("maxcll_zero", maxcll(0)),
+        ("mastering_peak_zero", b"\x02" + word(0)),
+        ("maxcll_zero_mastering_peak_zero", b"\x03" + word(0) + word(0)),
+        ("maxcll_zero_mastering_peak_4000", b"\x03" + word(0) + word(4_000)),
+        ("maxcll_zero_mastering_peak_2000", b"\x03" + word(0) + word(2_000)),
+        ("maxcll_1000_mastering_peak_zero", b"\x03" + word(1_000) + word(0)),
+        ("maxcll_zero_unconstrained", b"\x05" + word(0)),
+        ("mastering_peak_zero_unconstrained", b"\x06" + word(0)),
+        ("maxcll_zero_mastering_peak_zero_unconstrained", b"\x07" + word(0) + word(0)),
+        ("maxcll_zero_mastering_peak_2000_unconstrained", b"\x07" + word(0) + word(2_000)),
     )
     for name, card in cards:
         yield "peak_" + name, title(card, 3, pixels)
@@ -193,7 +202,8 @@ def cards():
     for name, data in (*refused_cards(), *named_peaks()):
         yield data[:8]
     for bits in range(8):
-        for first, second in ((1, 10_000), (10_000, 1), (0, 1), (1, 0), (10_001, 1), (1, 10_001), (256, 257)):
+        for first, second in ((1, 10_000), (10_000, 1), (0, 1), (1, 0), (10_001, 1), (1, 10_001), (256, 257),
+                              (0, 0), (0, 10_000), (10_000, 0), (0, 10_001), (10_001, 0)):
             yield bytes([bits]) + word(first) + word(second)
         for length in range(6):
             yield (bytes([bits]) + word(1_234) + word(5_678))[:length]

@@ -1,4 +1,4 @@
-"""Every number that document 01 and request 01 name, and the laws between their parts.
+"""Every number that document 01 and requests 01 and 02 name, and the laws between their parts.
 
     python3 -m tests.reference.check
 
@@ -15,7 +15,7 @@ from pathlib import Path
 from random import Random
 
 from . import content_light, curve, exact, hlg, light, measure, metadata, program, row
-from .cases import CORNERS, row as row_bytes, title
+from .cases import CORNERS, row as row_bytes, title, word
 from .light import A, BRIGHTEST, END, LAST, N, P
 from .pixel import convert_pixel, hlg_codes, mapped_components
 from .refusal import Refused
@@ -266,21 +266,38 @@ def other_examples():
 
 # Cards, rows, program
 
-def cards():
-    peak = metadata.peak_of_metadata
+def declared(text):
+    """The peak of a card that is given in hexadecimal digits, or its refusal."""
+    return outcome(metadata.peak_of_metadata, bytes.fromhex(text))
 
-    def given(text):
-        return refusal(peak, bytes.fromhex(text)) or peak(bytes.fromhex(text))
+
+def cards():
     answers = (
-        ("", (1, 0)), ("08", (2, 0)), ("80", (2, 0)), ("09", (2, 0)), ("01", (3, 0)), ("0103", (3, 0)),
-        ("0303e8", (3, 0)), ("030000", (3, 0)), ("010000", (4, 0)), ("012711", (4, 0)), ("0303e80000", (4, 0)),
-        ("03000003e8", (4, 0)), ("0103e8", 1_000), ("020fa0", 4_000), ("0303e80fa0", 1_000), ("04", 10_000),
+        ("", (1, 0)), ("08", (2, 0)), ("80", (2, 0)), ("09", (2, 0)), ("01", (3, 0)), ("0103", (3, 0)), ("0303e8", (3, 0)), ("032711", (3, 0)),
+        ("012711", (4, 0)), ("0303e82711", (4, 0)), ("0103e8", 1_000), ("020fa0", 4_000), ("0303e80fa0", 1_000), ("04", 10_000),
         ("060fa0", 4_000), ("0507d0", 2_000), ("0703e80fa0", 1_000), ("00", 4_000), ("010001", 1), ("012710", 10_000))
     for text, answer in answers:
-        yield f"card {text or 'empty'}: {answer}", given(text) == answer
+        yield f"card {text or 'empty'}: {answer}", declared(text) == answer
     yield "what follows a card", metadata.after_metadata(bytes.fromhex("0303e80fa0c0ffee")) == b"\xc0\xff\xee"
     yield "nothing follows a refused card", all(
-        metadata.after_metadata(bytes.fromhex(text)) == b"" for text in ("", "08ff", "0103", "010000ff"))
+        metadata.after_metadata(bytes.fromhex(text)) == b"" for text in ("", "08ff", "0103", "012711ff"))
+
+
+def zero_fields():
+    """Request 02: a card with a field of 0 answers as the one whose bit is clear and whose two bytes are gone."""
+    answers = (
+        ("010000", 4_000), ("020000", 4_000), ("0300000000", 4_000), ("0300000fa0", 4_000), ("03000007d0", 2_000), ("0303e80000", 1_000),
+        ("050000", 10_000), ("060000", 10_000), ("0700000000", 10_000), ("030000", (3, 0)), ("0300002711", (4, 0)), ("0327110000", (4, 0)))
+    for text, answer in answers:
+        yield f"card {text}: {answer}", declared(text) == answer
+    fields = [word(value) for value in (0, 1, 10_000, 10_001)]
+    cases = [(1, 0, b"", "MaxCLL"), (2, 0, b"", "mastering peak"), *((2, 1, field, f"mastering peak after {field.hex()}") for field in fields)]
+    for bit, others, before, name in cases:
+        pairs = [(bytes([bits | others | bit]) + before + word(0) + rest, bytes([bits | others]) + before + rest)
+                 for bits in range(256) if not bits & (2 * bit - 1) for rest in (b"", b"\0", *fields, b"\1\2\3")]
+        yield f"{name}, 0 or not there", all(
+            outcome(metadata.peak_of_metadata, zero) == outcome(metadata.peak_of_metadata, without)
+            and metadata.after_metadata(zero) == metadata.after_metadata(without) for zero, without in pairs)
 
 
 def rows():
@@ -450,7 +467,8 @@ def measure_answers():
     cut, bad = white[:5], row_bytes((64, 3, 64))
     answers = (
         ("no input", b"", "refused 1"), ("an unknown bit", b"\x08", "refused 2"), ("a cut card", b"\x01", "refused 3"),
-        ("a field of 0", b"\x01\0\0", "refused 4"), ("no width", card, "refused 10"), ("width 0", title(card, 0), "refused 10"),
+        ("a field above 10,000", b"\x01\x27\x11", "refused 4"), ("no width", card, "refused 10"), ("width 0", title(card, 0), "refused 10"),
+        ("a field of 0 and no width", b"\x01\0\0", "refused 10"), ("a field of 0", title(b"\x01\0\0", 1, white), "1005 0 0"),
         ("no rows", title(card, 8_192), "refused 12"), ("a cut row", title(card, 1, white, cut), "refused 11"),
         ("a bad row", title(card, 1, white, bad, white), "refused 9"), ("a bad and cut row", title(card, 2, bad, cut), "refused 11"),
         ("a cut row after a bad one", title(card, 1, bad, cut), "refused 9"), ("two rows", title(card, 1, white, brighter), "2249 1 0"),
@@ -514,7 +532,7 @@ def traps():
 
 
 LAWS = (light_table, light_of_codes, positions, spline_is_hermite, highlight_curve, published_patches, hlg_steps,
-        hlg_code, published_constants, published_table, corner_pixels, other_examples, cards, rows, program_answers,
+        hlg_code, published_constants, published_table, corner_pixels, other_examples, cards, zero_fields, rows, program_answers,
         measured_numbers, measured_refusals, measured_lists, measured_records, measure_answers, distance, greys, traps)
 
 

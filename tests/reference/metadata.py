@@ -1,4 +1,4 @@
-"""Document 01, "Cards, rows, program": the card that opens a title and names its peak."""
+"""Document 01, "Cards, rows, program", and request 02: the card that opens a title and names its peak."""
 
 from .refusal import PEAK_TOP, Refused
 
@@ -26,14 +26,14 @@ def card_fields(card):
         if bits & bit:
             fields[bit] = int.from_bytes(card[at:at + FIELD_BYTES], "big")
             at += FIELD_BYTES
-    if not all(1 <= value <= PEAK_TOP for value in fields.values()):
+    if max(fields.values(), default=0) > PEAK_TOP:
         raise Refused(4)
     return fields
 
 
 def peak_of_metadata(card):
-    """The declared peak in cd/m2 of the card that these bytes open with."""
-    fields = card_fields(card)
+    """The declared peak in cd/m2 of the card that these bytes open with; fields of 0 are passed over, as if their bits were clear."""
+    fields = {bit: value for bit, value in card_fields(card).items() if value != 0}
     if MAXCLL in fields:
         return fields[MAXCLL]
     if MASTERING_PEAK in fields:

@@ -7,10 +7,10 @@ use native.Mathlib.Omega.{arith}
 use lib.ListN.{length, getD, drop, length-append, drop-of-length-le, List·getD-append}
 use lib.Seq.{drop-append-le}
 use lib.Dec.{eqb, ltb}
-use borrow.Author.Tests.{ne-eqb, eq-eqb, lt-ltb, le-ltb, eqb-true, eqb-false, ltb-true, ltb-false}
+use borrow.Author.Tests.{ne-eqb, eq-eqb, lt-ltb, le-ltb, eqb-true, eqb-false, ltb-true, ltb-false, not-true}
 use Rattle.quantity.specs.declared.Source.{Source}
 use Rattle.big_endian.specs.BigEndian.{numberAt}
-use Rattle.metadata.specs.Card.{bit, stands, maxCLL, masteringPeak, cardBytes, unknownBit, cutShort, outOfRange, fieldOutOfRange}
+use Rattle.metadata.specs.Card.{bit, stands, maxCLL, masteringPeak, cardBytes, unknownBit, cutShort, known, outOfRange, fieldOutOfRange}
 use Rattle.metadata.specs.Card.{peak, declared, cardAnswer, following, cardWants}
 use Rattle.metadata.specs.declared.SourceAnswer.{SourceAnswer}
 use Rattle.metadata.specs.declared.SourceAnswer.the-variants.{Declared, Refused}
@@ -108,14 +108,13 @@ or-false false b h = (refl, h)
 abbrev InRange : ℕ → Type 0
 InRange v = (1 ≤ v) × (v ≤ 10000)
 
-field-in-range : (standing : Bool) (v : ℕ) → (standing && outOfRange v) ≡ false → standing ≡ true → InRange v
-unfolding outOfRange
-field-in-range true v h e =
-    let p = or-false _ _ h in
-    let low = eqb-false v 0 (p .0) in
-    let high = ltb-false 10000 v (p .1) in
+known-in-range : (standing : Bool) (v : ℕ) → (standing && outOfRange v) ≡ false → known standing v ≡ true → InRange v
+unfolding outOfRange known
+known-in-range true v h e =
+    let low = eqb-false v 0 (not-true _ e) in
+    let high = ltb-false 10000 v h in
     omega arith
-field-in-range false v h e = absurd (true≢false (sym e))
+known-in-range false v h e = absurd (true≢false (sym e))
 
 chosen : {b : Bool} {x next : ℕ} → (b ≡ true → InRange x) → InRange next → InRange (cond b x next)
 chosen {b = true} h n = h refl
@@ -128,8 +127,8 @@ peak-in-range card h =
     let a = accepted card h in
     let fields = or-false (stands 0 card && outOfRange (maxCLL card)) _ (a .1) in
     let unconstrained = chosen {b = stands 2 card} {x = 10000} {next = 4000} (λ e. omega arith) (omega arith) in
-    let mastering = chosen (field-in-range (stands 1 card) (masteringPeak card) (fields .1)) unconstrained in
-    rw (a .2) (chosen (field-in-range (stands 0 card) (maxCLL card) (fields .0)) mastering)
+    let mastering = chosen (known-in-range (stands 1 card) (masteringPeak card) (fields .1)) unconstrained in
+    rw (a .2) (chosen (known-in-range (stands 0 card) (maxCLL card) (fields .0)) mastering)
 
 -- What follows an accepted card begins after its bytes.
 pub after-card : (card : List ℕ) {source : Source} → cardAnswer card ≡ Declared source → following card ≡ drop (cardBytes card) card
@@ -196,12 +195,12 @@ module _ (card more : List ℕ) where
         rw (← first, ← second) (rw (same-map some-byte))
 
     same-peak : peak (card ++ more) ≡ peak card
-    unfolding peak
+    unfolding peak known
     same-peak =
         let last : ℕ = cond (stands 2 card) 10000 4000 in
-        let mastering : ℕ = cond (stands 1 card) (masteringPeak card) last in
-        let second = where-standing (λ standing value. cond standing value last) (stands 1 card) same-mastering-peak refl in
-        let first = where-standing (λ standing value. cond standing value mastering) (stands 0 card) same-max-cll refl in
+        let mastering : ℕ = cond (known (stands 1 card) (masteringPeak card)) (masteringPeak card) last in
+        let second = where-standing (λ standing value. cond (known standing value) value last) (stands 1 card) same-mastering-peak refl in
+        let first = where-standing (λ standing value. cond (known standing value) value mastering) (stands 0 card) same-max-cll refl in
         rw (← first, ← second) (rw (same-map some-byte))
 
   -- A card that wants no byte answers the same whatever comes after it.

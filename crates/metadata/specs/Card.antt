@@ -1,7 +1,7 @@
--- The card that precedes a picture: scope (document 01), "Cards, rows, program", and refusals 1 to 4 of "What stops a call".
+-- The card that precedes a picture: scope (document 01), "Cards, rows, program", and refusals 1 to 4 of "What stops a call"; request 02, fields of 0.
 -- A list of bytes opens with the card, and other bytes may follow. Fields and peaks are in whole cd/m2, lengths in bytes.
 use Prim.Native.Nat.{ℕ, _+_, _*_, _-_, _/_, _%_, _^_}
-use mathlib.Core.Bool.{Bool, cond, _||_, _&&_}
+use mathlib.Core.Bool.{Bool, cond, not, _||_, _&&_}
 use mathlib.Core.List.{List}
 use lib.ListN.{length, getD, drop}
 use lib.Dec.{ltb, eqb}
@@ -42,20 +42,24 @@ unknownBit card = stands 3 card || stands 4 card || stands 5 card || stands 6 ca
 abbrev pub cutShort : List ℕ → Bool
 cutShort card = ltb (length card) (cardBytes card)
 
--- scope, refusal 4: a value that is no luminance from 1 to 10,000
+-- scope, refusal 4, and request 02: a value above 10,000
 unfoldable pub outOfRange : ℕ → Bool
-outOfRange value = eqb value 0 || ltb 10000 value
+outOfRange value = ltb 10000 value
 
 -- scope, refusal 4: one of the fields that stand is out of range, whichever of them gives the peak
 unfoldable pub fieldOutOfRange : List ℕ → Bool
 fieldOutOfRange card =
     (stands 0 card && outOfRange (maxCLL card)) || (stands 1 card && outOfRange (masteringPeak card))
 
--- scope, Cards: the peak of a card that nothing refuses; 4,000 where the card names none
+-- request 02: a field is known where its bit stands and its value is not 0, which encoders write for what they did not measure
+unfoldable pub known : Bool → ℕ → Bool
+known standing value = standing && not (eqb value 0)
+
+-- scope, Cards: the peak of a card that nothing refuses, by the first field that is known; 4,000 where the card names none
 unfoldable pub peak : List ℕ → ℕ
 peak card =
-    cond (stands 0 card) (maxCLL card)
-    (cond (stands 1 card) (masteringPeak card)
+    cond (known (stands 0 card) (maxCLL card)) (maxCLL card)
+    (cond (known (stands 1 card) (masteringPeak card)) (masteringPeak card)
     (cond (stands 2 card) 10000
     4000))
 

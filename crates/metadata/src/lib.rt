@@ -6,7 +6,7 @@ ghost use Prim.Native.Nat.{_/_, _%_, _<_, _≤_};
 ghost use lib.Dec.{eqb};
 ghost use lib.ListN.{length, getD};
 ghost use Rattle.metadata.specs.Card.{cardAnswer, endAfter, following, cardWants, cardBytes, unknownBit};
-ghost use Rattle.metadata.specs.Card.{fieldOutOfRange, outOfRange, masteringPeak, peak};
+ghost use Rattle.metadata.specs.Card.{fieldOutOfRange, outOfRange, masteringPeak, known, peak};
 use big_endian::byte_at;
 use big_endian::number_at;
 use quantity::Source;
@@ -112,9 +112,6 @@ fn field_refused(bit: u64, value: u64) -> bool
     if bit != 1 {
         return false;
     }
-    if value == 0 {
-        return true;
-    }
     10000 < value
 }
 
@@ -130,8 +127,18 @@ fn peak_of_fields(card: &[u8]) -> u64
     ensures { λ r. ⌜ r ≡ peak (now (card .entry)) ⌝ }
 {
     let unconstrained = first_standing(bit_of(card, 4), 10000, 4000);
-    let mastered = first_standing(bit_of(card, 2), mastering_peak(card), unconstrained);
-    first_standing(bit_of(card, 1), number_at(card, 1), mastered)
+    let mastered = first_known(bit_of(card, 2), mastering_peak(card), unconstrained);
+    first_known(bit_of(card, 1), number_at(card, 1), mastered)
+}
+
+// The value of a field where it is known, else the next choice: 0 stands for a value that nobody measured.
+fn first_known(bit: u64, value: u64, next: u64) -> u64
+    ensures { λ r. ⌜ r ≡ cond (known (eqb bit 1) value) value next ⌝ }
+{
+    if value == 0 {
+        return next;
+    }
+    first_standing(bit, value, next)
 }
 
 // The value where its bit stands, else the next choice.

@@ -1,4 +1,4 @@
--- The answer of `field_refused` in each of its three cases.
+-- The answer of `field_refused` in each of its two cases.
 use borrow.Author.Tests.{eq-eqb, ne-eqb}
 use Rattle.metadata.specs.Card.{outOfRange}
 use Rattle.metadata.proofs.field_refused.Statement.{statement}
@@ -9,11 +9,7 @@ returns c = simp (ne-eqb _ _ (c .if1 .taken))
 
 returns-2 : tie.Need-returns-2
 unfolding outOfRange
-returns-2 c = simp (eq-eqb _ _ (c .before .if1 .left), eq-eqb _ _ (c .if2 .taken))
-
-returns-3 : tie.Need-returns-3
-unfolding outOfRange
-returns-3 c = simp (eq-eqb _ _ (c .before .if1 .left), ne-eqb _ _ (c .if2 .left))
+returns-2 c = simp (eq-eqb _ _ (c .if1 .left))
 
 pub field-refused-spec : {M : Type 1} → statement M
-field-refused-spec = tie.close (tie.spec returns returns-2 returns-3)
+field-refused-spec = tie.close (tie.spec returns returns-2)
