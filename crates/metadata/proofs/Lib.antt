@@ -1,1 +1,2 @@
 pub mod CardLaws
+pub mod ZeroFieldLaws
