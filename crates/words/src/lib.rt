@@ -5,6 +5,7 @@ pub mod product;
 pub mod quotient;
 
 pub use multiple::multiply;
+pub use multiple::multiply_by_pair;
 pub use multiple::multiply_by_power;
 pub use order::at_most;
 pub use product::Product;
