@@ -1,4 +1,4 @@
-"""Every number that document 01 and requests 01 and 02 name, and the laws between their parts.
+"""Every number that document 01 and requests 01 to 03 name, and the laws between their parts.
 
     python3 -m tests.reference.check
 
@@ -10,7 +10,7 @@ import sys
 from decimal import Decimal, localcontext
 from fractions import Fraction
 from io import BytesIO
-from math import isqrt
+from math import gcd, isqrt
 from pathlib import Path
 from random import Random
 
@@ -216,6 +216,27 @@ def hlg_code():
         hlg.code(s * A, even) == d and hlg.code(s * A, even + 1) == d - 1 for d, s in hlg.T.items())
     yield "a component above 1,000 cd/m2 reads that", hlg.codes((2**64, 0, 2**63)) == hlg.codes((A, 0, A))
     yield "the weights add up to 10,000", sum(hlg.WEIGHTS) == 10_000
+
+
+def shorter_products():
+    """Request 03: the comparison divided by what both sides share."""
+    shared = gcd(A**5, 2**240 * 10_000)
+    yield "A^5 and 2^240 x 10,000 share 2^135 x 5^4", shared == 2**135 * 5**4
+    yield "5^11 and 2^109 are left", (A**5 // shared, 2**240 * 10_000 // shared) == (5**11, 2**109)
+    step_side = hlg.T[1_019]**6 * 5**11 * hlg.luminance((A, A, A))
+    component_side = 2**109 * A**6
+    yield "both sides stay below 2^318 and in five words", max(step_side, component_side) < 2**318 < 2**(5 * 64)
+    yield "2^317 would not hold the step's side, nor four words the component's", step_side > 2**317 and component_side > 2**(4 * 64)
+
+    def reached(d, R, Y):
+        return R > 0 and hlg.T[d]**6 * 5**11 * Y <= 2**109 * R**6
+    random = Random(3)
+    mapped = [tuple(random.randint(0, A >> random.randrange(34)) for _ in range(3)) for _ in range(40)] + [(0, 0, 0), (A, A, A)]
+    yield "every step is reached or missed as by the products before", all(
+        reached(d, R, Y) == hlg.reached(d, R, Y) for three in mapped for R, Y in [(R, hlg.luminance(three)) for R in three] for d in hlg.T)
+    even = 5 * 2**109                   # with R = 25 T[d] both sides are equal
+    yield "also where both sides are equal, and where the luminance is a unit off", all(
+        [reached(d, 25 * s, Y) for Y in (even - 1, even, even + 1)] == [True, True, False] for d, s in hlg.T.items())
 
 
 def published_constants():
@@ -532,7 +553,7 @@ def traps():
 
 
 LAWS = (light_table, light_of_codes, positions, spline_is_hermite, highlight_curve, published_patches, hlg_steps,
-        hlg_code, published_constants, published_table, corner_pixels, other_examples, cards, zero_fields, rows, program_answers,
+        hlg_code, shorter_products, published_constants, published_table, corner_pixels, other_examples, cards, zero_fields, rows, program_answers,
         measured_numbers, measured_refusals, measured_lists, measured_records, measure_answers, distance, greys, traps)
 
 

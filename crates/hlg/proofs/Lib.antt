@@ -1,7 +1,7 @@
 pub mod ReachLaws
 pub mod CodeLaws
 pub mod CancelledLaws
-mod ProductLaws
+pub mod ProductLaws
 pub mod NewtonLaws
 pub mod EnclosureLaws
 pub mod RootLaws
