@@ -8,17 +8,17 @@ use lib.Dec.{eqb, ltb}
 use lib.ListN.{length, take, drop, length-take, length-drop}
 use borrow.Author.Tests.{ltb-false, eqb-false}
 use Rattle.quantity.specs.declared.Source.{Source}
+use Rattle.quantity.specs.Component.{Pixel}
 use Rattle.eetf.specs.Curve.{peakRead}
-use Rattle.pixel.specs.Conversion.{code}
 use Rattle.rows.specs.declared.RowAnswer.{RowAnswer}
 use Rattle.rows.specs.declared.RowAnswer.the-variants.{Converted, Refused}
 use Rattle.rows.specs.Row.{spanBytes}
-use Rattle.rows.specs.Answer.{hostNumber}
+use Rattle.rows.specs.Answer.{bytesAfter, hostNumber}
 use Rattle.rows.proofs.AnswerLaws.{neither, either, refused-not-converted, Accepted, accepted, host-number-fits, refused-after, converted-after}
 use Rattle.span.specs.Span.{convertedInto}
 use Rattle.span.proofs.SpanLaws.{filled}
 use Rattle.pq_hlg.specs.Pixel.{peakRefused, sampleRefused}
-use Rattle.pq_hlg.specs.Row.{rowAnswer, destinationAfter}
+use Rattle.pq_hlg.specs.Row.{rowAnswer}
 
 pub peak-taken : (peak : ℕ) → peakRefused peak ≡ false → (1 ≤ peak) × (peak ≤ 10000)
 unfolding peakRefused
@@ -46,17 +46,17 @@ module _ (source : Source) (row : List ℕ) (bytes first end : ℕ) where
   row-number-fits =
       either (λ a. hostNumber a ≤ 6291456) (peakRefused (source .peak)) _ _ (λ _. omega arith) (λ _. host-number-fits sampleRefused row bytes first end)
 
--- the destination of a call that is refused, and of one that converts
-module _ (source : Source) (row dst : List ℕ) (first end : ℕ) where
+-- the destination of a call that is refused, and of one that converts, by any conversion under a peak
+module _ (f : ℕ → Pixel → Pixel) (source : Source) (row dst : List ℕ) (first end : ℕ) where
   pub row-refused : {a : RowAnswer} {number place : ℕ} → a ≡ rowAnswer source row (length dst) first end → a ≡ Refused number place
-      → dst ≡ destinationAfter source row dst first end
-  unfolding destinationAfter
-  row-refused e told = refused-after (code (source .peak)) row dst first end (sym e ∙ told)
+      → dst ≡ bytesAfter (rowAnswer source row (length dst) first end) (f (source .peak)) row dst first end
+  row-refused e told = refused-after (f (source .peak)) row dst first end (sym e ∙ told)
 
   pub row-converted : (ys : List ℕ) (to : ℕ) → rowAnswer source row (length dst) first end ≡ Converted
-      → ys ≡ convertedInto source (take (length row - 6 * first) (drop (6 * first) row)) (take (to - 6 * first) (drop (6 * first) dst))
-      → to ≡ 6 * end → take (6 * first) dst ++ (ys ++ drop (to - 6 * first) (drop (6 * first) dst)) ≡ destinationAfter source row dst first end
-  unfolding destinationAfter
+      → ys ≡ convertedInto (f (peakRead (source .peak))) (take (length row - 6 * first) (drop (6 * first) row)) (take (to - 6 * first) (drop (6 * first) dst))
+      → to ≡ 6 * end
+      → take (6 * first) dst ++ (ys ++ drop (to - 6 * first) (drop (6 * first) dst))
+      ≡ bytesAfter (rowAnswer source row (length dst) first end) (f (source .peak)) row dst first end
   row-converted ys to e y at-end =
       let tested = row-accepted source row (length dst) first end e in
       let k = tested .1 in
@@ -64,6 +64,7 @@ module _ (source : Source) (row dst : List ℕ) (first end : ℕ) where
       let part = take (to - 6 * first) (drop (6 * first) dst) in
       let room : length part ≡ 6 * (end - first) = simp (length-take, length-drop) (omega (arith, k .same, k .within)) in
       let enough : 6 * (end - first) ≤ length src = simp (length-take, length-drop) (omega (arith, k .within)) in
-      let peak = ap (λ (p : ℕ). spanBytes (code p) src 0 (end - first)) (peak-read (source .peak) (tested .0)) in
+      let peak = ap (λ (p : ℕ). spanBytes (f p) src 0 (end - first)) (peak-read (source .peak) (tested .0)) in
       ap (λ (n : ℕ). take (6 * first) dst ++ (ys ++ drop (n - 6 * first) (drop (6 * first) dst))) at-end
-      ∙ converted-after (code (source .peak)) row dst first end ys e (k .ordered) (k .within) (y ∙ filled source src part (end - first) room enough ∙ peak)
+      ∙ converted-after (f (source .peak)) row dst first end ys e (k .ordered) (k .within)
+      (y ∙ filled (f (peakRead (source .peak))) src part (end - first) room enough ∙ peak)

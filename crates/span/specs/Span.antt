@@ -13,6 +13,6 @@ use Rattle.rows.specs.Row.{withSpan}
 abbrev pub codesUnder : Source → Pixel → Pixel
 codesUnder source = code (peakRead (source .peak))
 
--- a destination that was filled from src: as many whole pixels as both have, the other bytes as they were
-abbrev pub convertedInto : Source → List ℕ → List ℕ → List ℕ
-convertedInto source src dst = withSpan (codesUnder source) src dst 0 (min (length src) (length dst) / 6)
+-- a destination that was filled from src by a conversion of a pixel: as many whole pixels as both have, the other bytes as they were
+abbrev pub convertedInto : (Pixel → Pixel) → List ℕ → List ℕ → List ℕ
+convertedInto f src dst = withSpan f src dst 0 (min (length src) (length dst) / 6)

@@ -38,7 +38,7 @@ use rows::fewer;
 // The pixels that fill dst, converted from the first ones of src: as many whole ones as both have. Other bytes of dst remain. An empty span needs
 // no table.
 pub fn convert_span(source: Source, src: &[u8], dst: &mut [u8])
-    ensures { λ _. ⌜ now (dst .exit) ≡ convertedInto source (now (src .entry)) (now (dst .entry)) ⌝ }
+    ensures { λ _. ⌜ now (dst .exit) ≡ convertedInto (codesUnder source) (now (src .entry)) (now (dst .entry)) ⌝ }
 {
     let pixels = fewer(src.len(), dst.len()) / 6;
     if pixels == 0 {

@@ -3,9 +3,10 @@ use mathlib.Core.Path.{_≡_, sym, _∙_}
 use native.Mathlib.Omega.{arith}
 use lib.ListN.{length}
 use borrow.Author.Needs.{needs}
+use Rattle.pixel.specs.Conversion.{code}
 use Rattle.rows.specs.declared.RowAnswer.the-variants.{Converted}
 use Rattle.rows.proofs.AnswerLaws.{Accepted}
-use Rattle.pq_hlg.specs.Row.{rowAnswer}
+use Rattle.pq_hlg.specs.Row.{rowAnswer, destinationAfter}
 use Rattle.pq_hlg.proofs.TestLaws.{row-accepted, row-refused, row-converted}
 use Rattle.pq_hlg.proofs.convert_row.Statement.{statement}
 use Rattle.pq_hlg.proofs.convert_row.Tie as tie
@@ -20,12 +21,14 @@ tested : (c : tie.After-enum-told2) → let a = c .before .before .before .befor
 tested c = row-accepted _ _ _ _ _ (converted c) .1
 
 returns : tie.Need-returns
-returns c = let e = c .before .before .test-row .ensures in (e, row-refused _ _ _ _ _ e (c .enum-told .given .1))
+unfolding destinationAfter
+returns c = let e = c .before .before .test-row .ensures in (e, row-refused code _ _ _ _ _ e (c .enum-told .given .1))
 
 returns-2 : tie.Need-returns-2
+unfolding destinationAfter
 returns-2 c =
     let told = c .before .before .before .before .before in
-    (sym (converted told), row-converted _ _ _ _ _ _ _ (converted told) (c .before .before .convert-span .ensures) (omega arith))
+    (sym (converted told), row-converted code _ _ _ _ _ _ _ (converted told) (c .before .before .convert-span .ensures) (omega arith))
 
 pub convert-row-spec : {M : Type 1} → statement M
 convert-row-spec =

@@ -6,6 +6,7 @@ use Prim.Native.Nat.{ℕ, _+_, _*_, _-_, _≤_}
 use native.Mathlib.Omega.{arith}
 use lib.ListN.{length, take, drop, length-take, length-drop}
 use borrow.Rule.Slice.PartMut.{same-len-mid}
+use Rattle.quantity.specs.Component.{Pixel}
 use Rattle.pixel.specs.Conversion.{code}
 use Rattle.rows.specs.Row.{spanBytes}
 use Rattle.rows.proofs.RowLaws.{span-of-part, span-further, length-span, put-pixels}
@@ -28,15 +29,15 @@ convert-block-requires c κs =
     let pre = c .before .before .before .before .before .before .before .pre in
     (pre .0, pre .1, pre .2, omega arith, simp (length-take, length-drop) (omega arith), simp (length-take, length-drop) (omega arith))
 
--- one block more
-block-put : (peak : ℕ) (src dst dst₀ ys : List ℕ) (j n : ℕ) → dst ≡ spanBytes (code peak) src 0 j ++ drop (6 * j) dst₀
-    → ys ≡ spanBytes (code peak) (take (6 * j + 6 * n - 6 * j) (drop (6 * j) src)) 0 n
-    → take (6 * j) dst ++ (ys ++ drop (6 * j + 6 * n - 6 * j) (drop (6 * j) dst)) ≡ spanBytes (code peak) src 0 (j + n) ++ drop (6 * (j + n)) dst₀
-block-put peak src dst dst₀ ys j n e y =
-    let front = spanBytes (code peak) src 0 j in
-    put-pixels dst dst₀ front ys j n e (length-span (code peak) src 0 j)
-    ∙ ap (λ (l : List ℕ). (front ++ l) ++ drop (6 * (j + n)) dst₀) (y ∙ span-of-part (code peak) src j n (6 * j) (6 * j + 6 * n - 6 * j) refl (omega arith))
-    ∙ sym (ap (λ (l : List ℕ). l ++ drop (6 * (j + n)) dst₀) (span-further (code peak) src j n))
+-- one block more, by any conversion of a pixel
+block-put : (f : Pixel → Pixel) (src dst dst₀ ys : List ℕ) (j n : ℕ) → dst ≡ spanBytes f src 0 j ++ drop (6 * j) dst₀
+    → ys ≡ spanBytes f (take (6 * j + 6 * n - 6 * j) (drop (6 * j) src)) 0 n
+    → take (6 * j) dst ++ (ys ++ drop (6 * j + 6 * n - 6 * j) (drop (6 * j) dst)) ≡ spanBytes f src 0 (j + n) ++ drop (6 * (j + n)) dst₀
+block-put f src dst dst₀ ys j n e y =
+    let front = spanBytes f src 0 j in
+    put-pixels dst dst₀ front ys j n e (length-span f src 0 j)
+    ∙ ap (λ (l : List ℕ). (front ++ l) ++ drop (6 * (j + n)) dst₀) (y ∙ span-of-part f src j n (6 * j) (6 * j + 6 * n - 6 * j) refl (omega arith))
+    ∙ sym (ap (λ (l : List ℕ). l ++ drop (6 * (j + n)) dst₀) (span-further f src j n))
 
 loop-again : tie.Need-loop-again Inv-loop μ-loop
 loop-again c =
@@ -44,7 +45,7 @@ loop-again c =
     let loop = c .before .before .before .before .before .before .before .loop in
     let n = c .before .before .before .before .before .fewer .result in
     let ys = c .before .before .convert-block .last .1 .1 .1 .1 .1 .1 .0 in
-    let put = block-put (a .peak) (a .src .now) (loop .dst) (a .dst .now) ys (loop .j) n (loop .inv .2) (c .before .before .convert-block .ensures) in
+    let put = block-put (code (a .peak)) (a .src .now) (loop .dst) (a .dst .now) ys (loop .j) n (loop .inv .2) (c .before .before .convert-block .ensures) in
     let same = same-len-mid (6 * loop .j) (6 * loop .j + 6 * n - 6 * loop .j) (loop .dst) ys (c .before .before .convert-block .kept .1 .1 .1 .1 .1 .1 .0) in
     (omega arith, same ∙ loop .inv .1, put)
 

@@ -1,7 +1,9 @@
 -- `span::convert_span` meets its contract: what it lends are the light table and the steps, and w is the position of the peak as read.
+use mathlib.Core.Path.{sym}
 use native.Mathlib.Omega.{arith}
 use borrow.Author.Needs.{needs}
 use Rattle.quantity.specs.Units.{units}
+use Rattle.pixel.specs.Conversion.{code}
 use Rattle.rows.proofs.RowLaws.{no-pixels}
 use Rattle.span.proofs.SpanLaws.{begun}
 use Rattle.span.proofs.convert_span.Statement.{statement}
@@ -20,7 +22,7 @@ returns-2 : tie.Need-returns-2
 returns-2 c =
     let a = c .before .before .before .before .before .before .before .before .before .before .before .before .before .before .before .before .args in
     let peak = c .before .before .before .before .before .before .before .before .before .before .before .read-peak in
-    begun (a .source) (a .src .now) (a .dst .now) _ (peak .result) (peak .ensures) (omega arith) (c .before .before .convert-blocks .ensures)
+    rw (sym (peak .ensures)) (begun (code (peak .result)) (a .src .now) (a .dst .now) _ (omega arith) (c .before .before .convert-blocks .ensures))
 
 pub convert-span-spec : {M : Type 1} → statement M
 convert-span-spec =
