@@ -1,6 +1,7 @@
 // The engine's calls: one pixel, a span of a row, and the row call for a host in C. Samples are ten-bit narrow-range code values, PQ in and
 // HLG out; a peak is in whole cd/m2.
 ghost use mathlib.Core.Path.{_≡_};
+ghost use Prim.Native.Nat.{_≤_};
 ghost use lib.ListN.{length};
 ghost use Rattle.quantity.specs.Component.{pixel};
 ghost use Rattle.rows.specs.Answer.{hostNumber};
@@ -79,7 +80,14 @@ pub extern "C" fn pq_hlg_convert_row(
     ensures { λ r. ⌜ (r ≡ hostNumber (rowAnswer (sourceOf peak) (now (row .entry)) (length (now (dst .entry))) first end))
         × (now (dst .exit) ≡ destinationAfter (sourceOf peak) (now (row .entry)) (now (dst .entry)) first end) ⌝ }
 {
-    let answer = convert_row(Source { peak: peak }, row, dst, first, end);
+    host_number(convert_row(Source { peak: peak }, row, dst, first, end))
+}
+
+// The number for a host, of the answers there are: no refused sample lies past the longest row.
+fn host_number(answer: RowAnswer) -> u64
+    requires { ⌜ hostNumber answer ≤ 6291456 ⌝ }
+    ensures { λ r. ⌜ r ≡ hostNumber answer ⌝ }
+{
     match answer {
         RowAnswer::Converted => 0,
         RowAnswer::Refused(number, place) => number + 256 * place,
