@@ -1,0 +1,4 @@
+pub mod WholeLaws
+pub mod YCbCrLaws
+pub mod DeliveryLaws
+pub mod CornerColours

@@ -1,0 +1,4 @@
+pub mod Rounding
+pub mod YCbCr
+pub mod Delivery
+pub mod CornerColours
