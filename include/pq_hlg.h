@@ -1,5 +1,5 @@
 /* SPDX-License-Identifier: MIT */
-/* The converter for hosts in C: PQ ten-bit narrow-range rows to HLG for a display of 1,000 cd/m2.
+/* The converter for hosts in C: PQ ten-bit narrow-range rows to HLG for a display of 1,000 cd/m2, as RGB or as Y'CbCr.
    Link target/staticlib/libpq_hlg.a, made by `rt staticlib pq_hlg` (x86-64 Linux). */
 #ifndef PQ_HLG_H
 #define PQ_HLG_H
@@ -33,12 +33,20 @@ extern "C" {
 
    A pointer may be null only where its length is 0, and needs no alignment. row and dst must not overlap. The library has no
    global state and no heap: nothing is kept between calls, and calls may run at the same time, also on one row, as long as no
-   call's dst overlaps a row or dst of another. An accepted call uses 54.4 KiB of stack, measured on the compiled library by
-   tests/host/stack.c, and the tests allow 72 KiB at most. Its one outside symbol is memset. */
+   call's dst overlaps a row or dst of another. An accepted call, this or the next, uses 54.5 KiB of stack, measured on the
+   compiled library by tests/host/stack.c, and the tests allow 72 KiB at most. The library's one outside symbol is memset. */
 uint64_t pq_hlg_convert_row(uint64_t peak,
                             const uint8_t *row, size_t row_len,
                             uint8_t *dst, size_t dst_len,
                             size_t first, size_t end);
+
+/* The same in Y'CbCr: dst gets luma, Cb and Cr in the places of red, green and blue, made of the HLG codes that
+   pq_hlg_convert_row writes. They are ten-bit narrow range too: luma from 64 to 1,019, Cb and Cr from 24 to 1,000, both 512
+   where the pixel is grey. All else is as for pq_hlg_convert_row, the refusals and their order included. */
+uint64_t pq_hlg_convert_row_ycbcr(uint64_t peak,
+                                  const uint8_t *row, size_t row_len,
+                                  uint8_t *dst, size_t dst_len,
+                                  size_t first, size_t end);
 
 #ifdef __cplusplus
 }

@@ -23,12 +23,13 @@ CRATES = ROOT / "crates"
 DOCUMENTS = sorted([*ROOT.glob("*.md"), *ROOT.glob("docs/*.md"), *ROOT.glob("tests/*/README.md"), ROOT / "bench/README.md"])
 FOLDERS = ("crates", "docs", "tools", "tests", "include", "samples", "bench", ".ci")
 
-# the lists of the scope (What stops a call) and of request 01, in the order of the tests
+# the lists of the scope (What stops a call) and of requests 01 and 04, in the order of the tests
 CONVERT = [1, 2, 3, 4, 10, 11, 9]
 PROGRAMS = {"A title": CONVERT, "The peak of a title": [*CONVERT, 12]}       # by the section of README.md: `convert`, `measure`
 ROW_CALL = [5, 6, 7, 8, 9]
 MEASURING_RUN = {"measure_row": [13, 6, 9], "measured_peak": [12]}
-ALL = {number for refusals in (*PROGRAMS.values(), ROW_CALL, *MEASURING_RUN.values()) for number in refusals}
+PIXEL_CALL_OF_CODES = [14]
+ALL = {number for refusals in (*PROGRAMS.values(), ROW_CALL, *MEASURING_RUN.values(), PIXEL_CALL_OF_CODES) for number in refusals}
 
 faults, held = [], 0
 

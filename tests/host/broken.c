@@ -1,12 +1,23 @@
 /* Engines with one fault each, made of the right one: broken.py renames the
- * library's call to right_row and builds this with -DWRONG=NAME_OF_A_FAULT.
+ * library's calls to right_row and right_ycbcr and builds this with
+ * -DWRONG_ROW=NAME_OF_A_FAULT, or with -DWRONG_YCBCR=NAME where the fault's
+ * heading has YCBCR_CALL.
  */
 #include "pq_hlg.h"
 
+#ifndef WRONG_ROW
+#define WRONG_ROW right_row
+#endif
+#ifndef WRONG_YCBCR
+#define WRONG_YCBCR right_ycbcr
+#endif
+
 #define CALL uint64_t peak, const uint8_t *row, size_t row_len, uint8_t *dst, size_t dst_len, size_t first, size_t end
+#define YCBCR_CALL CALL
 #define GIVEN peak, row, row_len, dst, dst_len, first, end
 
 uint64_t right_row(CALL);
+uint64_t right_ycbcr(CALL);
 
 static int peak_sound(uint64_t peak)
 {
@@ -131,7 +142,95 @@ static uint64_t cut_at_940(CALL)
     return number;
 }
 
+static unsigned sample(const uint8_t *pixel, int place)
+{
+    return 256u * pixel[2 * place] + pixel[2 * place + 1];
+}
+
+static void put_sample(uint8_t *pixel, int place, unsigned code)
+{
+    pixel[2 * place] = (uint8_t)(code >> 8);
+    pixel[2 * place + 1] = (uint8_t)code;
+}
+
+static uint64_t chroma_exchanged(YCBCR_CALL)
+{
+    uint64_t number = right_ycbcr(GIVEN);
+    for (size_t p = first; !number && p < end; p++) {
+        unsigned cb = sample(dst + 6 * p, 1);
+        put_sample(dst + 6 * p, 1, sample(dst + 6 * p, 2));
+        put_sample(dst + 6 * p, 2, cb);
+    }
+    return number;
+}
+
+/* The RGB codes of an accepted call, for faults that need them. */
+static uint8_t rgb[49152];
+
+/* Luma is one code lower where its fraction, in ten-thousandths, is from least up to most. */
+static uint64_t lower_luma(CALL, unsigned least, unsigned most)
+{
+    uint64_t number = right_ycbcr(GIVEN);
+    if (!number)
+        right_row(peak, row, row_len, rgb, dst_len, first, end);
+    for (size_t p = first; !number && p < end; p++) {
+        const uint8_t *codes = rgb + 6 * p;
+        unsigned sum = 2627 * (sample(codes, 0) - 64) + 6780 * (sample(codes, 1) - 64) + 593 * (sample(codes, 2) - 64);
+        if (least <= sum % 10000 && sum % 10000 <= most)
+            put_sample(dst + 6 * p, 0, sample(dst + 6 * p, 0) - 1);
+    }
+    return number;
+}
+
+static uint64_t luma_rounded_down(YCBCR_CALL)
+{
+    return lower_luma(GIVEN, 5000, 9999);
+}
+
+static uint64_t halves_of_luma_rounded_down(YCBCR_CALL)
+{
+    return lower_luma(GIVEN, 5000, 5000);
+}
+
+/* Cb is made of luma after its rounding: 112 * 10,000 / 2,060,133 of the difference in codes, to nearest. */
+static uint64_t chroma_of_rounded_luma(YCBCR_CALL)
+{
+    uint64_t number = right_ycbcr(GIVEN);
+    if (!number)
+        right_row(peak, row, row_len, rgb, dst_len, first, end);
+    for (size_t p = first; !number && p < end; p++) {
+        long cb = 1120000 * ((long)sample(rgb + 6 * p, 2) - (long)sample(dst + 6 * p, 0));
+        put_sample(dst + 6 * p, 1, (unsigned)(512 + (2 * cb + (cb < 0 ? -2060133 : 2060133)) / (2 * 2060133)));
+    }
+    return number;
+}
+
+/* A refusal of a sample leaves one byte written. */
+static uint64_t refused_ycbcr_call_writes(YCBCR_CALL)
+{
+    uint64_t number = right_ycbcr(GIVEN);
+    if (number % 256 == 9)
+        dst[6 * first] ^= 1;
+    return number;
+}
+
+static uint64_t rgb_delivered(YCBCR_CALL)
+{
+    return right_row(GIVEN);
+}
+
+/* The RGB call gives luma and chroma. */
+static uint64_t ycbcr_delivered(CALL)
+{
+    return right_ycbcr(GIVEN);
+}
+
 uint64_t pq_hlg_convert_row(CALL)
 {
-    return WRONG(GIVEN);
+    return WRONG_ROW(GIVEN);
+}
+
+uint64_t pq_hlg_convert_row_ycbcr(CALL)
+{
+    return WRONG_YCBCR(GIVEN);
 }

@@ -2,7 +2,8 @@
  * the engine can say what each answer should have been.
  *
  * Standard input: calls one after the other. A call is six 64-bit numbers in
- * the machine's order (struct call), then the row's bytes. Standard output:
+ * the machine's order (struct call), then the row's bytes; a bit of its options
+ * chooses between the RGB and the Y'CbCr call. Standard output:
  * for each call the number, what was harmed (0 if nothing), then every byte of
  * the destination. A row or destination longer than LONGEST has no bytes in
  * the stream: its pointer leads to memory that must not be touched.
@@ -22,7 +23,7 @@
 enum { LONGEST = 65536, TRAP = 65536, GUARD = 0x5A };
 
 /* Bits of `options`; its lowest eight are the destination's first byte. */
-enum { ROW_AT_START = 256, DST_AT_START = 512, ROW_NULL = 1024, DST_NULL = 2048 };
+enum { ROW_AT_START = 256, DST_AT_START = 512, ROW_NULL = 1024, DST_NULL = 2048, YCBCR = 4096 };
 
 /* Bits of `harm`. */
 enum { ROW_CHANGED = 1, GUARD_OF_ROW = 2, GUARD_OF_DST = 4 };
@@ -34,6 +35,9 @@ struct call {
 struct answer {
     uint64_t number, harm;
 };
+
+/* Both calls take the same. */
+typedef uint64_t row_call(uint64_t, const uint8_t *, size_t, uint8_t *, size_t, size_t, size_t);
 
 static void stop(const char *why)
 {
@@ -121,6 +125,7 @@ int main(void)
         int row_here = call.row_len <= LONGEST, dst_here = call.dst_len <= LONGEST;
         uint8_t *row = nowhere, *dst = nowhere;
         struct answer answer = { 0, 0 };
+        row_call *convert = call.options & YCBCR ? pq_hlg_convert_row_ycbcr : pq_hlg_convert_row;
 
         if (row_here) {
             row = place(&row_block, call.row_len, !!(call.options & ROW_AT_START));
@@ -133,7 +138,7 @@ int main(void)
             for (size_t i = 0; i < call.dst_len; i++)
                 dst[i] = (uint8_t)(call.options + i);
         }
-        answer.number = pq_hlg_convert_row(
+        answer.number = convert(
             call.peak,
             call.options & ROW_NULL && !call.row_len ? NULL : row, call.row_len,
             call.options & DST_NULL && !call.dst_len ? NULL : dst, call.dst_len,

@@ -1,4 +1,4 @@
-"""Compares the engine's row call, through the static library, with the second implementation.
+"""Compares the engine's two row calls, through the static library, with the second implementation.
 
     python3 -m tests.host.compare [--short] [--seed N] [--only PART ...] [--library FILE]
 
@@ -10,24 +10,26 @@ import shutil
 import sys
 import time
 from collections import Counter
-from itertools import islice
+from itertools import islice, product
 from pathlib import Path
 from random import Random
 
 from tests.reference.curve import bend_code
-from tests.reference.row import c_number, pixels_of, samples_of
+from tests.reference.row import c_number, pixels_of, rgb, samples_of
 from tests.reference.samples import MARKED_PEAKS, draw_peaks, draw_pixel
 from tests.reference.survey import bent_light, draw_case
+from tests.reference.ycbcr import luma_sum, ycbcr
 
 from . import greys
 from .damaged import calls_of_lengths, draw_damaged, draw_options, named_calls
 from .distances import Distances
-from .engine import HARM, LIBRARY, Broken, Call, ask, build, reachable
+from .engine import DELIVERIES, HARM, LIBRARY, YCBCR, Broken, Call, ask, build, reachable
 
 BATCH = 500                              # calls of one run of the C program
 ROW_PIXELS = 100                         # pixels drawn for one peak
 RAMP = bytes(range(256)) * 300           # what destinations hold before a call
-SIX_BYTES = [code.to_bytes(2, "big") * 3 for code in range(1_020)]
+GREYS = [code.to_bytes(2, "big") * 3 for code in range(1_020)]                         # a grey's pixel in RGB
+GREYS_YCBCR = [code.to_bytes(2, "big") + b"\2\0\2\0" for code in range(1_020)]         # and in Y'CbCr, both chroma 512
 
 FULL = {"random": 1_000_000, "adversarial": 500_000, "greys": 10_000, "damaged": 150_000,
         "lengths": 49_159, "sanitizer": 5_000, "valgrind": 400, "sampled": 2_000}
@@ -67,7 +69,7 @@ def destination_before(call):
 def wanted_answer(call):
     """Number and destination by the second implementation."""
     destination = destination_before(call)
-    number = c_number(call.peak, call.row, destination, call.first, call.end)
+    number = c_number(call.peak, call.row, destination, call.first, call.end, ycbcr if call.in_ycbcr else rgb)
     return number, bytes(destination) if reachable(call.dst_len) else b""
 
 
@@ -119,6 +121,13 @@ def whole_row(random, L, pixels):
     return Call(L, row, len(row), 0, len(pixels), draw_options(random))
 
 
+def in_both(calls):
+    """Each call in RGB, then the same in Y'CbCr."""
+    for call in calls:
+        yield call
+        yield call._replace(options=call.options | YCBCR)
+
+
 def random_rows(random, count):
     """Pixels drawn evenly from all accepted ones, a random peak to each row."""
     for _ in range(count // ROW_PIXELS):
@@ -135,32 +144,46 @@ def adversarial_rows(random, count):
         yield whole_row(random, L, [pixel] + [draw_pixel(random, L) for _ in range(ROW_PIXELS - 1)])
 
 
+def luma_is_half(codes):
+    """Whether the luma of RGB codes lies just between two code values."""
+    return luma_sum(*(code - 64 for code in codes)) % 10_000 == 5_000
+
+
 def compare_pixels(part, rows, count, engine, distances):
-    """Rows of drawn pixels, with the distances of their codes."""
-    progress = Progress(part, count, "pixels")
-    for call, answer in compared(engine, rows):
-        pixels, codes = (pixels_of(samples_of(data)) for data in (call.row, answer.destination))
-        for pixel, given in zip(pixels, codes):
-            distances.add(call.peak, pixel, given)
-        progress.step(len(pixels))
+    """Rows of drawn pixels in RGB and in Y'CbCr, with the distances of the RGB codes. Returns the pixels of each."""
+    progress, pixels, halves = Progress(part, count, "pixels in RGB and in Y'CbCr"), Counter(), 0
+    for call, answer in compared(engine, in_both(rows)):
+        pixels[call.in_ycbcr] += call.end
+        if call.in_ycbcr:
+            progress.step(call.end)
+            continue
+        for pixel, codes in zip(*(pixels_of(samples_of(data)) for data in (call.row, answer.destination))):
+            distances.add(call.peak, pixel, codes)
+            halves += luma_is_half(codes)
         bend_code.cache_clear()
         bent_light.cache_clear()
-    progress.line(", no difference")
-    return progress.done
+    progress.line(f", no difference; {halves} with a luma of a half")
+    return pixels
 
 
 def compare_greys(random, count, engine, distances):
-    """Every grey from 4 to 1,019 under each peak, or under `count` peaks."""
+    """Every grey from 4 to 1,019 under each peak, or under `count` peaks, in RGB and in Y'CbCr. Returns the pixels of each."""
     greys.check(random, 500)
     peaks = range(1, 10_001) if count >= 10_000 else sorted(
         {*MARKED_PEAKS, *random.sample(range(1, 10_001), count - len(MARKED_PEAKS))})
     row = row_of((D, D, D) for D in greys.CODES)
-    progress = Progress("greys", len(peaks), f"peaks with {len(greys.CODES):,} codes each")
-    measured = None
-    for batch in batches((Call(L, row, len(row), 0, len(greys.CODES), draw_options(random)) for L in peaks), 100):
+    calls = in_both(Call(L, row, len(row), 0, len(greys.CODES), draw_options(random)) for L in peaks)
+    progress, pixels = Progress("greys", len(peaks), f"peaks with {len(greys.CODES):,} codes each, in RGB and in Y'CbCr"), Counter()
+    codes = measured = None
+    for batch in batches(calls, 200):
         for call, answer in zip(batch, ask(engine, batch)):
+            pixels[call.in_ycbcr] += call.end
+            if call.in_ycbcr:               # its RGB call was just before
+                hold(call, answer, (0, b"".join([GREYS_YCBCR[code] for code in codes])))
+                progress.step(1)
+                continue
             codes = greys.grey_codes(call.peak)
-            hold(call, answer, (0, b"".join([SIX_BYTES[code] for code in codes])))
+            hold(call, answer, (0, b"".join([GREYS[code] for code in codes])))
             if codes != sorted(codes):
                 raise Difference(f"{call}: a larger grey has a smaller code")
             if codes != measured or call.peak > 1_000:      # low peaks all give the same codes
@@ -169,9 +192,8 @@ def compare_greys(random, count, engine, distances):
                     code = codes[D - greys.CODES[0]]
                     distances.add(call.peak, (D, D, D), (code, code, code))
                 bent_light.cache_clear()
-        progress.step(len(batch))
     progress.line(", no difference")
-    return progress.done * len(greys.CODES)
+    return pixels
 
 
 def damaged_calls(random, count):
@@ -183,24 +205,25 @@ def damaged_calls(random, count):
 
 
 def compare_calls(part, calls, count, engine):
-    """Calls that may be refused. Returns the pixels converted and how often each number came."""
-    progress, seen, pixels = Progress(part, count, "calls"), Counter(), 0
+    """Calls that may be refused. Returns the pixels converted by either call, and how often each gave each number."""
+    progress, seen, pixels = Progress(part, count, "calls"), Counter(), Counter()
     for call, answer in compared(engine, calls):
-        seen[answer.number % 256] += 1
-        pixels += 0 if answer.number else call.end - call.first
+        seen[call.in_ycbcr, answer.number % 256] += 1
+        pixels[call.in_ycbcr] += 0 if answer.number else call.end - call.first
         progress.step(1)
         if progress.done % BATCH == 0:
             bend_code.cache_clear()
-    progress.line(", no difference; accepted {}, refused {}".format(
-        seen[0], ", ".join(f"{number}: {seen[number]}" for number in range(5, 10))))
+    progress.line(", no difference; " + "; ".join("{}: accepted {}, refused {}".format(
+        name, seen[call, 0], ", ".join(f"{number}: {seen[call, number]}" for number in range(5, 10)))
+        for call, name in enumerate(DELIVERIES)))
     return pixels, seen
 
 
 def compare_damaged(part, random, count, engine):
-    """Damaged calls; each refusal must have occurred."""
+    """Damaged calls; each refusal of each call must have occurred."""
     pixels, seen = compare_calls(part, damaged_calls(random, count), count, engine)
-    if set(seen) != {0, 5, 6, 7, 8, 9}:
-        raise Difference(f"{part}: not every refusal occurred, but {sorted(seen)}")
+    if set(seen) != set(product((False, True), (0, 5, 6, 7, 8, 9))):
+        raise Difference(f"{part}: not every refusal occurred in RGB and in Y'CbCr, but {sorted(seen)}")
     return pixels
 
 
@@ -215,7 +238,7 @@ def run(sizes, seed, parts, library):
     """All parts; prints what was compared. True if demand 3's bounds hold as well."""
     engine = [build("pages", library)]
     distances = Distances(max(1, (sizes["random"] + sizes["adversarial"]) // sizes["sampled"]))
-    pixels = calls = 0
+    pixels, calls = Counter(), 0
     for part in parts:
         size, random = sizes[part], Random(f"{part} {seed}")
         if part == "random":
@@ -235,7 +258,8 @@ def run(sizes, seed, parts, library):
             else:
                 pixels += compare_damaged(part, random, size, watched_by_valgrind(build("heap", library)))
     sound = distances.report() if distances.count else True
-    print(f"{pixels:,} pixels and {calls:,} calls, damaged or not, compared: every number and byte equal")
+    print(f"{pixels[False]:,} pixels in RGB, {pixels[True]:,} in Y'CbCr and {calls:,} calls of either, damaged or not, "
+          "compared: every number and byte equal")
     return sound
 
 

@@ -8,7 +8,7 @@ from tests.reference.refusal import HIGHEST_SAMPLE, LOWEST_SAMPLE
 from tests.reference.row import PIXEL_BYTES, WIDEST
 from tests.reference.samples import MARKED_PEAKS
 
-from .engine import DST_AT_START, DST_NULL, ROW_AT_START, ROW_NULL, Call
+from .engine import DST_AT_START, DST_NULL, ROW_AT_START, ROW_NULL, YCBCR, Call
 
 TOP = 2**64 - 1                          # SIZE_MAX
 LONG = PIXEL_BYTES * WIDEST              # the longest row, 49,152 bytes
@@ -108,6 +108,11 @@ def draw_options(random):
         bit for bit in (ROW_AT_START, DST_AT_START, ROW_NULL, DST_NULL) if random.randrange(2))
 
 
+def draw_call(random):
+    """Options that choose one of the two calls as well."""
+    return draw_options(random) + random.choice((0, YCBCR))
+
+
 def draw_damaged(random):
     """A call with no, one or several things wrong."""
     pixels = draw_pixels(random)
@@ -118,7 +123,7 @@ def draw_damaged(random):
         spoil(random, call)
     if isinstance(call["row"], bytearray):
         call["row"] = bytes(call["row"])
-    return Call(options=draw_options(random), **call)
+    return Call(options=draw_call(random), **call)
 
 
 def calls_of_lengths(random, count):
@@ -127,10 +132,10 @@ def calls_of_lengths(random, count):
     row, lengths = bytes(draw_row(random, WIDEST + 1)), range(LONG + 7)
     for length in lengths if count == len(lengths) else sorted(random.sample(lengths, count)):
         pixels = length // PIXEL_BYTES
-        yield Call(random.randint(1, 10_000), row[:length], length, max(0, pixels - 1), pixels, draw_options(random))
+        yield Call(random.randint(1, 10_000), row[:length], length, max(0, pixels - 1), pixels, draw_call(random))
 
 
 def named_calls(random):
     """The calls that are also stored as vectors."""
     for peak, row, length, first, end in row_calls():
-        yield Call(peak, row, length, first, end, draw_options(random))
+        yield Call(peak, row, length, first, end, draw_call(random))

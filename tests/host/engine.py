@@ -15,7 +15,8 @@ LIBRARY = ROOT / "target/staticlib/libpq_hlg.a"
 TARGET = ROOT / "target"
 
 LONGEST = 65_536               # longer rows and destinations cannot be touched; as in compare.c
-ROW_AT_START, DST_AT_START, ROW_NULL, DST_NULL = 256, 512, 1_024, 2_048
+ROW_AT_START, DST_AT_START, ROW_NULL, DST_NULL, YCBCR = 256, 512, 1_024, 2_048, 4_096
+DELIVERIES = ("RGB", "Y'CbCr")
 HARM = {1: "the row was changed", 2: "bytes beside the row were changed",
         4: "bytes beside the destination were changed"}
 CALL = struct.Struct("=6Q")
@@ -28,7 +29,7 @@ FLAGS = {
 
 
 class Call(NamedTuple):
-    """One row call. A destination's byte i holds options + i before it, modulo 256."""
+    """One row call, in Y'CbCr if the options have that bit, else in RGB. A destination's byte i holds options + i before it, modulo 256."""
     peak: int
     row: bytes                 # or a range, whose length counts alone
     dst_len: int
@@ -36,8 +37,13 @@ class Call(NamedTuple):
     end: int
     options: int = 0
 
+    @property
+    def in_ycbcr(self):
+        """Whether it is the Y'CbCr call."""
+        return bool(self.options & YCBCR)
+
     def __str__(self):
-        return (f"peak {self.peak}, row of {len(self.row)} bytes, destination of {self.dst_len}, "
+        return (f"{DELIVERIES[self.in_ycbcr]}, peak {self.peak}, row of {len(self.row)} bytes, destination of {self.dst_len}, "
                 f"first {self.first}, end {self.end}, options {self.options:#x}")
 
 

@@ -1,5 +1,6 @@
 /* SPDX-License-Identifier: MIT */
-/* The row call from C: a grey of 1,004 cd/m2 under a peak of 1,000, a red of the same code, then a refused sample.
+/* The row calls from C: a grey of 1,004 cd/m2 under a peak of 1,000 and a red of the same code, as RGB and as Y'CbCr, then a
+   refused sample.
      rt staticlib pq_hlg
      gcc -O2 -Wall -Werror -Iinclude tests/host/example.c target/staticlib/libpq_hlg.a -o target/host/example_c
      target/host/example_c */
@@ -21,6 +22,12 @@ static unsigned sample(const uint8_t *row, size_t i) {
     return 256u * row[2 * i] + row[2 * i + 1];
 }
 
+static void print_answer(uint64_t number, const uint8_t *dst) {
+    printf("%" PRIu64 "\n", number);
+    for (size_t j = 0; j < 2; j++)
+        printf("%u %u %u\n", sample(dst, 3 * j), sample(dst, 3 * j + 1), sample(dst, 3 * j + 2));
+}
+
 int main(void) {
     const unsigned codes[6] = {723, 723, 723, 723, 64, 64};
     uint8_t row[12], dst[12] = {0};
@@ -28,9 +35,9 @@ int main(void) {
         put_sample(row, i, codes[i]);
 
     uint64_t number = pq_hlg_convert_row(1000, row, sizeof row, dst, sizeof dst, 0, 2);
-    printf("%" PRIu64 "\n", number);
-    for (size_t j = 0; j < 2; j++)
-        printf("%u %u %u\n", sample(dst, 3 * j), sample(dst, 3 * j + 1), sample(dst, 3 * j + 2));
+    print_answer(number, dst);
+    number = pq_hlg_convert_row_ycbcr(1000, row, sizeof row, dst, sizeof dst, 0, 2);
+    print_answer(number, dst);
 
     put_sample(row, 4, 1020);
     number = pq_hlg_convert_row(1000, row, sizeof row, dst, sizeof dst, 1, 2);

@@ -20,7 +20,7 @@ from tempfile import TemporaryDirectory
 
 from tests.reference.samples import MARKED_PEAKS
 
-from .compare import Difference, adversarial_rows, batches, damaged_calls, hold, random_rows, row_of
+from .compare import Difference, adversarial_rows, batches, damaged_calls, hold, in_both, random_rows, row_of
 from .engine import LIBRARY, ROOT, Broken, Call, ask, build
 from .greys import CODES
 
@@ -82,12 +82,11 @@ def build_spoiled(folder, kind, random):
 
 
 def calls_to_compare(random):
-    """Pixels drawn evenly and where it is delicate, all greys under marked peaks, and damaged calls."""
-    yield from random_rows(random, PIXELS["random"])
-    yield from adversarial_rows(random, PIXELS["adversarial"])
+    """Pixels drawn evenly and where it is delicate and all greys under marked peaks, in RGB and in Y'CbCr, and damaged calls of either."""
+    yield from in_both(random_rows(random, PIXELS["random"]))
+    yield from in_both(adversarial_rows(random, PIXELS["adversarial"]))
     greys = row_of((D, D, D) for D in CODES)
-    for L in MARKED_PEAKS:
-        yield Call(L, greys, len(greys), 0, len(CODES))
+    yield from in_both(Call(L, greys, len(greys), 0, len(CODES)) for L in MARKED_PEAKS)
     yield from damaged_calls(random, DAMAGED)
 
 
@@ -114,7 +113,7 @@ def run(library, spoiled, random):
     """Compares both libraries and prints what was found."""
     programs = build("pages", library, "sound"), build("pages", spoiled, "spoiled")
     calls, pixels = compare(*programs, random)
-    print(f"{calls:,} calls and {pixels:,} pixels: every number and byte as with sound hints")
+    print(f"{calls:,} calls and {pixels:,} pixels, in RGB and in Y'CbCr: every number and byte as with sound hints")
     sound, slow = (time_a_pixel(program, Random(1)) for program in programs)
     print(f"about {sound:,.0f} ns a pixel with sound hints, {slow:,.0f} with spoiled ones")
 

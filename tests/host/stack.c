@@ -1,6 +1,6 @@
-/* How much of its thread's stack the row call uses, and that it isn't more than LIMIT.
+/* How much of its thread's stack each of the two row calls uses, and that it isn't more than LIMIT.
  *
- * A thread gets a stack that has been painted; after the calls the lowest byte
+ * A thread gets a stack that has been painted; after its calls the lowest byte
  * of another colour shows how deep they wrote. Long frames are touched page by
  * page as they are made, so what is reserved and never written counts too.
  */
@@ -25,6 +25,9 @@ static const unsigned EXACT[][3] = {{660, 236, 539}, {287, 268, 136}, {657, 582,
 
 enum { EXACTS = sizeof EXACT / sizeof *EXACT };
 
+typedef uint64_t row_call(uint64_t, const uint8_t *, size_t, uint8_t *, size_t, size_t, size_t);
+
+static row_call *measured;
 static uint8_t *stack, row[6 * LONGEST], dst[6 * LONGEST];
 static size_t deepest;
 
@@ -39,8 +42,8 @@ static void put_sample(size_t i, unsigned code) {
 }
 
 static void convert(uint64_t peak, size_t pixels) {
-    if (pq_hlg_convert_row(peak, row, 6 * pixels, dst, 6 * pixels, 0, pixels))
-        stop("the row call refused a row");
+    if (measured(peak, row, 6 * pixels, dst, 6 * pixels, 0, pixels))
+        stop("a row call refused a row");
 }
 
 static void *make_calls(void *nothing) {
@@ -64,18 +67,25 @@ static void *make_calls(void *nothing) {
     return nothing;
 }
 
-int main(void) {
+/* The stack that one of the calls uses, in KiB. */
+static double stack_of(row_call *call) {
     pthread_attr_t attributes;
     pthread_t thread;
-    stack = mmap(NULL, STACK, PROT_READ | PROT_WRITE, MAP_PRIVATE | MAP_ANONYMOUS, -1, 0);
-    if (stack == MAP_FAILED)
-        stop("no memory");
+    measured = call;
     memset(stack, COLOUR, STACK);
     if (pthread_attr_init(&attributes) || pthread_attr_setstack(&attributes, stack, STACK)
         || pthread_create(&thread, &attributes, make_calls, NULL) || pthread_join(thread, NULL))
         stop("no thread");
-    printf("a call uses %.1f KiB of stack\n", (double)deepest / 1024);
     if (deepest > LIMIT)
-        stop("that is more than 72 KiB");
+        stop("a call uses more than 72 KiB");
+    return (double)deepest / 1024;
+}
+
+int main(void) {
+    stack = mmap(NULL, STACK, PROT_READ | PROT_WRITE, MAP_PRIVATE | MAP_ANONYMOUS, -1, 0);
+    if (stack == MAP_FAILED)
+        stop("no memory");
+    double rgb = stack_of(pq_hlg_convert_row), ycbcr = stack_of(pq_hlg_convert_row_ycbcr);
+    printf("a call uses %.1f KiB of stack in RGB, %.1f KiB in Y'CbCr\n", rgb, ycbcr);
     return 0;
 }

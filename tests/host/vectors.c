@@ -1,7 +1,8 @@
-/* The stored vectors of the second implementation (tests/vectors/rows.txt and pixels.txt) through the row call from C.
-   tests/reference/README.md says what a line holds; a pixel is a row of one pixel here, so samples past 16 bits are left out.
+/* The stored vectors of the second implementation (tests/vectors/rows.txt, ycbcr_rows.txt and pixels.txt) through the row
+   calls from C. tests/reference/README.md says what a line holds; a pixel is a row of one pixel here, in RGB, so samples past
+   16 bits are left out.
      gcc -O2 -Wall -Werror -Iinclude tests/host/vectors.c target/staticlib/libpq_hlg.a -o target/host/vectors_c
-     target/host/vectors_c tests/vectors/rows.txt tests/vectors/pixels.txt */
+     target/host/vectors_c tests/vectors/rows.txt tests/vectors/ycbcr_rows.txt tests/vectors/pixels.txt */
 #include <inttypes.h>
 #include <stdio.h>
 #include <stdlib.h>
@@ -10,6 +11,8 @@
 #include "pq_hlg.h"
 
 enum { LONGEST = 65536, UNWRITTEN = 0xa5 };
+
+typedef uint64_t row_call(uint64_t, const uint8_t *, size_t, uint8_t *, size_t, size_t, size_t);
 
 static uint8_t row[LONGEST], dst[LONGEST], expected[LONGEST];
 
@@ -35,7 +38,7 @@ static void must_match(int holds, const char *file, unsigned line) {
     }
 }
 
-static unsigned test_rows(const char *file) {
+static unsigned test_rows(const char *file, row_call *convert) {
     FILE *in = fopen(file, "r");
     char source[512], after[512];
     uint64_t peak, number;
@@ -48,7 +51,7 @@ static unsigned test_rows(const char *file) {
         memset(expected, UNWRITTEN, LONGEST);
         if (strcmp(after, "same") != 0)
             read_bytes(after, expected);
-        must_match(pq_hlg_convert_row(peak, row, bytes, dst, len, first, end) == number, file, line);
+        must_match(convert(peak, row, bytes, dst, len, first, end) == number, file, line);
         must_match(memcmp(dst, expected, LONGEST) == 0, file, line);
     }
     must_match(line > 0 && feof(in), file, line + 1);
@@ -85,9 +88,10 @@ static unsigned test_pixels(const char *file, unsigned *left_out) {
 }
 
 int main(int argc, char **argv) {
-    if (argc != 3)
+    if (argc != 4)
         return 2;
-    unsigned left_out = 0, rows = test_rows(argv[1]), pixels = test_pixels(argv[2], &left_out);
-    printf("%u rows and %u pixels as stored, %u left out\n", rows, pixels, left_out);
+    unsigned rows = test_rows(argv[1], pq_hlg_convert_row), ycbcr_rows = test_rows(argv[2], pq_hlg_convert_row_ycbcr);
+    unsigned left_out = 0, pixels = test_pixels(argv[3], &left_out);
+    printf("%u rows in RGB, %u in Y'CbCr and %u pixels as stored, %u left out\n", rows, ycbcr_rows, pixels, left_out);
     return 0;
 }

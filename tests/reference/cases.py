@@ -1,5 +1,7 @@
-"""Titles, rows and cards that are stored as vectors, each under a telling name."""
+"""Titles, rows, cards and codes that are stored as vectors; titles under telling names."""
 
+from heapq import nlargest, nsmallest
+from itertools import product
 from random import Random
 
 from .samples import draw_pixel
@@ -8,6 +10,8 @@ DAMAGE_PEAK = b"\x01\x03\xe8"                   # MaxCLL 1,000
 WHITE, RED, BLACK = (723, 723, 723), (723, 64, 64), (64, 64, 64)
 CORNERS = (BLACK, RED, (64, 723, 64), (64, 64, 723), (723, 723, 64), (64, 723, 723),
            (723, 64, 723), WHITE)
+CORNER_CODES = ((64, 64, 64), (976, 64, 64), (64, 950, 64), (64, 64, 1_015), (942, 942, 64),
+                (64, 948, 948), (970, 64, 970), (940, 940, 940))    # what these become, document 002's RGB columns
 
 
 def word(value):
@@ -241,6 +245,71 @@ def row_calls():
     for first, end in ((0, 0), (0, 1), (1, 1), (1, 0), (big, big)):
         yield 1_000, b"", 0, first, end
     yield 1_000, b"", 6, 0, 0
+
+
+def luma_beside_halves(random):
+    """RGB codes whose luma is a half, or a ten-thousandth of a code beside one."""
+    inverse = pow(593, -1, 10_000)
+    for beside in (4_999, 5_000, 5_001):
+        for _ in range(400):
+            r, g = random.choices(range(956), k=2)
+            b = (beside - 2_627 * r - 6_780 * g) * inverse % 10_000
+            if b < 956:
+                yield 64 + r, 64 + g, 64 + b
+
+
+def differences_beside_halves(own, other):
+    """Differences of codes, u and v, that bring a chroma nearest to a half: three pairs on either side.
+
+    A chroma of request 04 is 112 (own u + other v) / (219 own); where u grows by 219 it moves by a whole number.
+    """
+    def beside(pair):
+        return 224 * (own * pair[0] + other * pair[1]) % (438 * own) - 219 * own
+    pairs = [(u, v) for u in range(219) for v in range(-955, 956)]
+    above, below = ([pair for pair in pairs if sign * beside(pair) > 0] for sign in (1, -1))
+    return nsmallest(3, above, beside) + nlargest(3, below, beside)
+
+
+def chroma_beside_halves(random):
+    """RGB codes whose Cb, then Cr, is as near to a half as can be; none is a half."""
+    chroma = (((9_407, 2_627), lambda g, u, v: (g - v, g, g + u)),      # Cb counts b - g and g - r
+              ((7_373, 593), lambda g, u, v: (g + u, g, g - v)))        # Cr counts r - g and g - b
+    for weights, codes in chroma:
+        for least, v in differences_beside_halves(*weights):
+            for u in range(least - 5 * 219, 956, 219):
+                greens = range(64 + max(0, -u, v), 1_020 - max(0, u, -v))
+                if greens:
+                    yield codes(random.choice(greens), u, v)
+
+
+def refused_codes():
+    """Refusal 14: one code out of range at each place, several at once, and numbers up to 64 bits."""
+    for bad in (0, 3, 63, 1_020, 1_023, 1_024, 2**16 + 64, 2**32 + 500, 2**63 + 100, 2**64 - 64, 2**64 - 1):
+        for codes in ((bad, 64, 940), (64, bad, 1_019), (500, 600, bad), (bad, bad, 64), (1_019, bad, bad), (bad, bad, bad)):
+            yield codes
+    yield 0, 1_020, 64
+    yield 64, 2**64 - 1, 63
+    yield 2**64 - 1, 3, 2**32 + 64
+
+
+def ycbcr_codes():
+    """RGB codes for the Y'CbCr pixel call."""
+    random = Random(7_604)
+    lowest, highest = 64, 1_019
+    for code in range(lowest, highest + 1):
+        yield code, code, code
+    yield from CORNER_CODES
+    yield from product((lowest, lowest + 1, highest - 1, highest), repeat=3)
+    for ends in product((lowest, highest), repeat=2):
+        for code in range(lowest, highest, 45):
+            yield (code, *ends)
+            yield ends[0], code, ends[1]
+            yield (*ends, code)
+    yield from luma_beside_halves(random)
+    yield from chroma_beside_halves(random)
+    for _ in range(2_000):
+        yield tuple(random.choices(range(lowest, highest + 1), k=3))
+    yield from refused_codes()
 
 
 def records():

@@ -1,4 +1,4 @@
-"""Every number that document 01 and requests 01 to 03 name, and the laws between their parts.
+"""Every number that document 01 and requests 01 to 04 name, and the laws between their parts.
 
     python3 -m tests.reference.check
 
@@ -7,15 +7,17 @@ Each function below is one law; it yields statements with whether they hold.
 
 import subprocess
 import sys
-from decimal import Decimal, localcontext
+from decimal import ROUND_HALF_UP, Decimal, localcontext
 from fractions import Fraction
+from functools import lru_cache
 from io import BytesIO
+from itertools import product
 from math import gcd, isqrt
 from pathlib import Path
 from random import Random
 
 from . import content_light, curve, exact, hlg, light, measure, metadata, program, row
-from .cases import CORNERS, row as row_bytes, title, word
+from .cases import CORNER_CODES, CORNERS, row as row_bytes, row_calls, title, word, ycbcr_codes
 from .light import A, BRIGHTEST, END, LAST, N, P
 from .pixel import convert_pixel, hlg_codes, mapped_components
 from .refusal import Refused
@@ -24,10 +26,11 @@ from .rounding import power, power_below
 from .samples import MARKED_PEAKS, draw_measured_row, draw_palette, draw_peaks, draw_pixel
 from .survey import held_to_nine_sixteenths, quick_distance
 from .vectors import FILL, converted, measured
+from .ycbcr import by_fractions, convert_codes, luma_sum, round_away, unrounded, ycbcr
 
 ROOT = Path(__file__).resolve().parents[2]
-OUTPUTS = ((64, 64, 64), (976, 64, 64), (64, 950, 64), (64, 64, 1_015), (942, 942, 64),
-           (64, 948, 948), (970, 64, 970), (940, 940, 940))     # document 002's table, RGB columns
+YCBCR_COLUMNS = ((64, 512, 512), (303, 382, 978), (665, 185, 95), (120, 998, 473), (890, 63, 548),
+                 (716, 638, 60), (356, 846, 938), (940, 512, 512))      # document 002's table, Y'CbCr columns
 
 
 def refusal(call, *arguments):
@@ -253,7 +256,7 @@ def published_constants():
 
 def published_table():
     """Document 002's table starts from 1,000 cd/m2 and not from a code."""
-    for pixel, codes in zip(CORNERS, OUTPUTS):
+    for pixel, codes in zip(CORNERS, CORNER_CODES):
         lights = [Decimal(1_000 if D == 723 else 0) for D in pixel]
         exacts = exact.exact_values_of_lights(lights)
         yield f"lights of {pixel} give {codes}", tuple(int(x + Decimal("0.5")) for x in exacts) == codes
@@ -262,7 +265,7 @@ def published_table():
 # Corner pixels
 
 def corner_pixels():
-    for pixel, codes in zip(CORNERS, OUTPUTS):
+    for pixel, codes in zip(CORNERS, CORNER_CODES):
         yield f"{pixel}, peak 1,000: {codes}", convert_pixel(1_000, pixel) == codes
     for D, L, code in ((4, 4_000, 64), (1_019, 4_000, 940), (940, 10_000, 940), (65, 1_000, 65)):
         yield f"grey {D}, peak {L}: {code}", convert_pixel(L, grey(D)) == grey(code)
@@ -323,7 +326,7 @@ def zero_fields():
 
 def rows():
     data = row_bytes(*CORNERS)
-    whole = b"".join(row_bytes(pixel) for pixel in OUTPUTS)
+    whole = b"".join(row_bytes(pixel) for pixel in CORNER_CODES)
     for first in range(9):
         for end in range(first, 9):
             destination = bytearray([FILL]) * len(data)
@@ -504,6 +507,125 @@ def measure_answers():
         yield f"measure, at most {limit} rows, what follows stays unread", ("".join(out) == answer + "\n" and source.tell() == 5 + 6 * limit)
 
 
+# Request 04: Y'CbCr
+
+def nearest(x):
+    """A decimal's nearest whole number, halves away from zero."""
+    return int(x.to_integral_value(ROUND_HALF_UP))
+
+
+@lru_cache(maxsize=None)
+def accepted_codes():
+    """The RGB codes that are stored for the pixel call, refused ones left out."""
+    return [codes for codes in ycbcr_codes() if refusal(convert_codes, codes) is None]
+
+
+def published_ycbcr():
+    """Document 002's Y'CbCr columns start from unrounded signals, request 04 from codes: red's luma differs, nothing else."""
+    for codes, published in zip(CORNER_CODES, YCBCR_COLUMNS):
+        due = (304, 382, 978) if published == (303, 382, 978) else published
+        yield f"codes {codes} give {due}", convert_codes(codes) == due
+    for pixel, published in zip(CORNERS, YCBCR_COLUMNS):
+        lights = [Decimal(1_000 if D == 723 else 0) for D in pixel]
+        red, green, blue = ((value - 64) / 876 for value in exact.exact_values_of_lights(lights))
+        luma = exact.RED * red + exact.GREEN * green + exact.BLUE * blue
+        cb, cr = (blue - luma) / Decimal("1.8814"), (red - luma) / Decimal("1.4746")
+        yield f"unrounded signals of {pixel} give {published}", (
+            nearest(64 + 876 * luma), nearest(512 + 896 * cb), nearest(512 + 896 * cr)) == published
+    signal = exact.exact_values_of_lights((Decimal(1_000), Decimal(0), Decimal(0)))[0] - 64
+    yield "red's luma before rounding is 303.49 by its signal of 975.66 and 303.58 by its code of 976", (
+        round(64 + signal, 2), round(64 + exact.RED * signal, 2), round(64 + unrounded((976, 64, 64))[0], 2)) == (
+        Decimal("975.66"), Decimal("303.49"), Fraction("303.58"))
+    yield "luma is weighted as the luminance is", (luma_sum(1, 0, 0), luma_sum(0, 1, 0), luma_sum(0, 0, 1)) == hlg.WEIGHTS
+    yield "1.8814 and 1.4746 are twice what the weights of blue and red leave", (
+        2 - 2 * exact.BLUE, 2 - 2 * exact.RED) == (Decimal("1.8814"), Decimal("1.4746"))
+
+
+def rounding_away():
+    for n, d, whole in ((1, 2, 1), (-1, 2, -1), (5, 2, 3), (-5, 2, -3), (3, 7, 0), (-3, 7, 0), (4, 7, 1), (-4, 7, -1), (0, 9, 0)):
+        yield f"{n}/{d} rounds to {whole}", round_away(n, d) == whole
+    fractions = [(n, d) for n in range(-60, 61) for d in range(1, 13)]
+    yield "nothing is more than a half away, and a half lies nearer to zero than its whole number", all(
+        2 * abs(whole * d - n) < d or 2 * abs(whole * d - n) == d and abs(whole * d) > abs(n)
+        for n, d in fractions for whole in [round_away(n, d)])
+    yield "the same as decimals round", all(round_away(n, 16) == nearest(Decimal(n) / 16) for n in range(-80, 81))
+
+
+def ycbcr_of_codes():
+    random = Random(8)
+    drawn = [tuple(random.choices(range(64, 1_020), k=3)) for _ in range(10_000)]
+    yield "whole numbers give what the fractions give", all(ycbcr(codes) == by_fractions(codes) for codes in (*accepted_codes(), *drawn))
+    yield "a grey keeps its code and has no chroma", all(convert_codes(grey(d)) == (d, 512, 512) for d in range(64, 1_020))
+    yield "a chroma counts differences of codes", all(
+        unrounded(codes)[1:] == unrounded([code + 1 for code in codes])[1:] for codes in drawn[:1_000])
+    corners = list(map(convert_codes, product((64, 1_019), repeat=3)))
+    yield "at the cube's corners luma ends at 64 and 1,019, chroma at 24 and 1,000", [
+        (min(each), max(each)) for each in zip(*corners)] == [(64, 1_019), (24, 1_000), (24, 1_000)]
+    # which way luma, Cb and Cr go where red, green or blue grows
+    ways = ((1, -1, 1), (1, -1, -1), (1, 1, -1))
+    beside = [*product((64, 300, 940, 1_019), repeat=2), *(codes[:2] for codes in drawn[:40])]
+    for place, (name, way) in enumerate(zip(("red", "green", "blue"), ways)):
+        walks = [[ycbcr((*others[:place], code, *others[place:])) for code in range(64, 1_020)] for others in beside]
+        yield f"with {name} luma never falls, and each chroma goes one way", all(
+            sign * low <= sign * high for walk in walks for pair in zip(walk, walk[1:]) for sign, low, high in zip(way, *pair))
+        yield f"all along {name} results lie between those ends", all(
+            64 <= luma <= 1_019 and 24 <= min(chroma) and max(chroma) <= 1_000 for walk in walks for luma, *chroma in walk)
+
+
+def halves_of_luma():
+    stored = [(codes, luma_sum(*(code - 64 for code in codes))) for codes in accepted_codes()]
+    for beside, more in ((4_999, 0), (5_000, 1), (5_001, 1)):
+        codes = [(codes, total // 10_000) for codes, total in stored if total % 10_000 == beside]
+        yield f"{beside} ten-thousandths go {'up' if more else 'down'}", len(codes) > 20 and all(
+            convert_codes(each)[0] == 64 + whole + more for each, whole in codes)
+
+
+def halves_of_chroma():
+    """A chroma is unchanged where all codes grow alike, so the search may keep the darkest one at 64."""
+    cases = (("Cb", 1, (-2_627, -6_780, 9_407), Fraction(112, 2_060_133), 7), ("Cr", 2, (7_373, -6_780, -593), Fraction(112, 1_614_687), 29))
+    for name, place, weights, reduced, apart in cases:
+        part = reduced.denominator
+        units = [unrounded([64 + (at == one) for at in range(3)])[place] for one in range(3)]
+        yield f"{name} is {reduced} times a whole sum", units == [weight * reduced for weight in weights]
+        yield f"{name} is never a half: its denominator {part} is odd", part % 2 == 1
+        steps = [[224 * weight * code % (2 * part) for code in range(956)] for weight in weights]
+        yield f"no codes bring {name} nearer to a half than {apart} halves of 1/{part}", apart == min(
+            abs((x + y) % (2 * part) - part) for one, other in ((0, 1), (0, 2), (1, 2)) for x in steps[one] for y in steps[other])
+        stored = [unrounded(codes)[place] % 1 - Fraction(1, 2) for codes in accepted_codes()]
+        yield f"such codes of {name} are stored, on both sides of the half", all(Fraction(sign * apart, 2 * part) in stored for sign in (-1, 1))
+
+
+def code_refusals():
+    bounds = ((63, (14, 0)), (64, None), (1_019, None), (1_020, (14, 0)), (0, (14, 0)), (2**32 + 500, (14, 0)), (2**64 - 1, (14, 0)))
+    for code, answer in bounds:
+        yield f"code {code} at each place: {answer}", all(
+            refusal(convert_codes, codes) == answer for codes in ((code, 64, 940), (500, code, 64), (64, 1_019, code), grey(code)))
+    yield "several at once have place 0 too", refusal(convert_codes, (64, 63, 1_020)) == refusal(convert_codes, (2**64 - 1, 3, 64)) == (14, 0)
+    yield "what the conversion gives is taken", all(
+        refusal(convert_codes, hlg_codes(L, pixel)) is None for L in (1, 1_000, 10_000) for pixel in (*CORNERS, grey(4), grey(1_019), (4, 4, 1_019)))
+
+
+def alike(L, data, length, first, end):
+    """Whether both row calls give one number, and the second luma, Cb and Cr of the codes that the first writes, in their places."""
+    codes, made = (bytearray([FILL]) * length for _ in range(2))
+    number = row.c_number(L, data, codes, first, end)
+    if number == 0:
+        span = slice(6 * first, 6 * end)
+        codes[span] = row_bytes(*map(convert_codes, row.pixels_of(row.samples_of(codes[span]))))
+    return (number, codes) == (row.c_number(L, data, made, first, end, ycbcr), made)
+
+
+def ycbcr_rows():
+    data, made = row_bytes(*CORNERS), bytearray(48)
+    number = row.c_number(1_000, data, made, 0, 8, ycbcr)
+    yield "document 002's corners as a row", (number, made) == (0, row_bytes(*map(convert_codes, CORNER_CODES)))
+    random = Random(9)
+    drawn = [(L, row_bytes(*(draw_pixel(random, L) for _ in range(8))), 48, random.randrange(4), random.randrange(4, 9))
+             for L in draw_peaks(random, 100)]
+    yield "both calls start from the same RGB codes", all(alike(*call) for call in drawn)
+    yield "both calls refuse alike, and write nothing then", all(alike(*call) for call in row_calls())
+
+
 # Voted property 3
 
 def distance():
@@ -554,7 +676,8 @@ def traps():
 
 LAWS = (light_table, light_of_codes, positions, spline_is_hermite, highlight_curve, published_patches, hlg_steps,
         hlg_code, shorter_products, published_constants, published_table, corner_pixels, other_examples, cards, zero_fields, rows, program_answers,
-        measured_numbers, measured_refusals, measured_lists, measured_records, measure_answers, distance, greys, traps)
+        measured_numbers, measured_refusals, measured_lists, measured_records, measure_answers,
+        published_ycbcr, rounding_away, ycbcr_of_codes, halves_of_luma, halves_of_chroma, code_refusals, ycbcr_rows, distance, greys, traps)
 
 
 def failures():

@@ -1,7 +1,8 @@
-"""Document 01, "What stops a call": a refusal's number and its place."""
+"""Document 01, "What stops a call", and the requests since: a refusal's number and its place."""
 
 PEAK_TOP = 10_000
 LOWEST_SAMPLE, HIGHEST_SAMPLE = 4, 1_019
+LOWEST_CODE, HIGHEST_CODE = 64, 1_019          # of HLG
 
 
 class Refused(Exception):
@@ -23,3 +24,9 @@ def refuse_samples(samples, first=0):
     for place, sample in enumerate(samples, first):
         if not LOWEST_SAMPLE <= sample <= HIGHEST_SAMPLE:
             raise Refused(9, place)
+
+
+def refuse_codes(codes):
+    """Refusal 14 if an RGB code is out of range; its place is 0, whichever code that is."""
+    if not all(LOWEST_CODE <= code <= HIGHEST_CODE for code in codes):
+        raise Refused(14)

@@ -1,4 +1,9 @@
-"""Document 01, "Cards, rows, program": the row call and the one number that C gets from it."""
+"""Document 01, "Cards, rows, program", and request 04: the two row calls and the one number that C gets from them.
+
+Both make the same HLG codes and differ in what they write of them: `rgb` or `ycbcr.ycbcr`.
+"""
+
+from functools import lru_cache
 
 from .pixel import hlg_codes
 from .refusal import Refused, refuse_peak, refuse_samples
@@ -24,10 +29,21 @@ def refuse_length(row):
         raise Refused(6)
 
 
-def convert_row(L, row, destination, first, end):
+def rgb(codes):
+    """What the RGB row call writes of a pixel: its HLG codes as they are."""
+    return codes
+
+
+@lru_cache(maxsize=1)
+def span_codes(L, span):
+    """The HLG codes of a span's pixels. The last ones are kept, for the other call on the same row."""
+    return [hlg_codes(L, pixel) for pixel in pixels_of(samples_of(span))]
+
+
+def convert_row(L, row, destination, first, end, written=rgb):
     """Converts the span from `first` up to `end`, itself not included, and writes it to its places in `destination`, a bytearray.
 
-    Refusals 5 to 9 in this order; a refused call writes nothing.
+    `written` makes the three samples of a pixel of its HLG codes. Refusals 5 to 9 in this order; a refused call writes nothing.
     """
     refuse_peak(L)
     refuse_length(row)
@@ -36,16 +52,15 @@ def convert_row(L, row, destination, first, end):
     if first > end or end > len(row) // PIXEL_BYTES:
         raise Refused(8)
     span = slice(PIXEL_BYTES * first, PIXEL_BYTES * end)
-    samples = samples_of(row[span])
-    refuse_samples(samples, 3 * first)
-    given = [code for pixel in pixels_of(samples) for code in hlg_codes(L, pixel)]
-    destination[span] = b"".join(code.to_bytes(2, "big") for code in given)
+    refuse_samples(samples_of(row[span]), 3 * first)
+    given = [sample for codes in span_codes(L, bytes(row[span])) for sample in written(codes)]
+    destination[span] = b"".join(sample.to_bytes(2, "big") for sample in given)
 
 
-def c_number(L, row, destination, first, end):
+def c_number(L, row, destination, first, end, written=rgb):
     """One number for C: 0, or of a refusal its number and 256 times its place added up."""
     try:
-        convert_row(L, row, destination, first, end)
+        convert_row(L, row, destination, first, end, written)
     except Refused as refused:
         return refused.number + 256 * refused.place
     return 0

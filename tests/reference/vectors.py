@@ -13,15 +13,16 @@ from io import BytesIO
 from pathlib import Path
 from random import Random
 
-from .cases import cards, measured_titles, records, row_calls, titles
+from .cases import cards, measured_titles, records, row_calls, titles, ycbcr_codes
 from .content_light import Record, measure_row, measured_peak
 from .measure import measure_title
 from .metadata import after_metadata, peak_of_metadata
 from .pixel import convert_pixel
 from .program import convert_title
 from .refusal import Refused
-from .row import MOST_ROWS, c_number
+from .row import MOST_ROWS, c_number, rgb
 from .samples import code_of_peak, draw_peaks, draw_pixel, knee_code
+from .ycbcr import convert_codes, ycbcr
 
 ROOT = Path(__file__).resolve().parents[2]
 FOLDER = "tests/vectors"
@@ -86,8 +87,18 @@ def words(*numbers):
 
 
 def pixel_question(L, pixel):
-    """Peak, red, green and blue."""
-    return words(L, *pixel)
+    """A byte of 0, then peak, red, green and blue."""
+    return b"\0" + words(L, *pixel)
+
+
+def codes_line(codes, given):
+    """`r g b`, then the answer."""
+    return " ".join(map(str, (*codes, given)))
+
+
+def codes_question(codes):
+    """A byte of 1, then a peak that is not read, red, green and blue."""
+    return b"\1" + words(0, *codes)
 
 
 def digits(data):
@@ -97,10 +108,10 @@ def digits(data):
     return data.hex() or "-"
 
 
-def row_line(L, row, length, first, end):
+def row_line(L, row, length, first, end, written=rgb):
     """`peak first end row length number destination`; the destination is `same` if nothing was written."""
     destination = bytearray([FILL]) * length
-    number = c_number(L, row, destination, first, end)
+    number = c_number(L, row, destination, first, end, written)
     after = "same" if destination == bytearray([FILL]) * length else digits(destination)
     return f"{L} {first} {end} {digits(row)} {length} {number} {after}"
 
@@ -170,11 +181,13 @@ def lines(each):
     return "".join(line + "\n" for line in dict.fromkeys(each)).encode()
 
 
-def vector_files(pixels, measured_rows, answered_cards):
+def vector_files(pixels, measured_rows, answered_cards, answered_codes):
     """Every file of tests/vectors: its path and its bytes."""
     yield f"{FOLDER}/pixels.txt", lines(pixel_line(*case, given) for case, given in pixels.items())
+    yield f"{FOLDER}/ycbcr.txt", lines(codes_line(*case, given) for case, given in answered_codes.items())
     yield f"{FOLDER}/records.txt", lines(record_line(*case, given) for case, given in measured_rows.items())
     yield f"{FOLDER}/rows.txt", lines(row_line(*case) for case in row_calls())
+    yield f"{FOLDER}/ycbcr_rows.txt", lines(row_line(*case, ycbcr) for case in row_calls())
     yield f"{FOLDER}/cards.txt", lines(card_line(*case, given) for case, given in answered_cards.items())
     for name, data in titles():
         yield f"{FOLDER}/convert/{name}.in", data
@@ -185,7 +198,7 @@ def vector_files(pixels, measured_rows, answered_cards):
         yield f"{FOLDER}/measure/{name}.out", measured(data)
 
 
-def programs(pixels, measured_rows, answered_cards):
+def programs(pixels, measured_rows, answered_cards, answered_codes):
     """What each program is run on: its crate, its input and the output that it owes."""
     sample = dict(titles())["sample"]
     yield "convert", sample, converted(sample)
@@ -196,9 +209,10 @@ def programs(pixels, measured_rows, answered_cards):
     # two rows and a brighter third
     brighter = dict(measured_titles())["three_rows_brightest_last"]
     yield "measure_limit", brighter, measured(brighter, 2)
-    for crate, question, cases in (("pixel_vectors", pixel_question, pixels), ("record_vectors", record_question, measured_rows),
-                                   ("card_vectors", card_question, answered_cards)):
-        yield crate, b"".join(question(*case) for case in cases), "".join(given + "\n" for given in cases.values()).encode()
+    for crate, *asked in (("pixel_vectors", (pixel_question, pixels), (codes_question, answered_codes)),
+                          ("record_vectors", (record_question, measured_rows)), ("card_vectors", (card_question, answered_cards))):
+        yield (crate, b"".join(question(*case) for question, cases in asked for case in cases),
+               "".join(given + "\n" for _, cases in asked for given in cases.values()).encode())
 
 
 def program_files(*cases):
@@ -216,8 +230,9 @@ def files():
     pixels = {case: answer(convert_pixel, *case) for case in pixel_cases()}
     measured_rows = {case: record_answer(*case) for case in records()}
     answered_cards = {(data,): card_answer(data) for data in cards()}
-    yield from vector_files(pixels, measured_rows, answered_cards)
-    yield from program_files(pixels, measured_rows, answered_cards)
+    answered_codes = {(codes,): answer(convert_codes, codes) for codes in ycbcr_codes()}
+    yield from vector_files(pixels, measured_rows, answered_cards, answered_codes)
+    yield from program_files(pixels, measured_rows, answered_cards, answered_codes)
 
 
 def differences(stored):

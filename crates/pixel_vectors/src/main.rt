@@ -1,9 +1,10 @@
-// The pixel call over stored questions, each four 8-byte numbers on standard input, high byte first: peak, red, green, blue. The answer is a
-// line: the three codes, or `refused` with its number and place.
+// The pixel calls over stored questions on standard input, each a byte for the call, 0 for HLG codes of PQ and 1 for Y'CbCr of RGB, and four 8-byte
+// numbers, high byte first: peak, red, green, blue. Y'CbCr reads no peak. The answer is a line: the three codes, or `refused` with its number and place.
 ghost use Prim.Native.Nat.{_≤_};
 use libc::STDIN_FILENO;
 use libc::STDOUT_FILENO;
 use pq_hlg::PixelAnswer;
+use pq_hlg::convert_codes;
 use pq_hlg::convert_pixel;
 use quantity::Source;
 
@@ -12,8 +13,8 @@ fn widen(byte: u8) -> u64 {
 }
 
 // The 8-byte number that starts at a place of a question.
-fn number_at(question: &[u8; 32], place: usize) -> u64
-    requires { ⌜ place ≤ 24 ⌝ }
+fn number_at(question: &[u8; 33], place: usize) -> u64
+    requires { ⌜ place ≤ 25 ⌝ }
 {
     let mut number = 0;
     let mut i = 0;
@@ -47,20 +48,21 @@ fn print_answer(answer: PixelAnswer) -> bool {
 
 // One question and its answer; false at the end of the input, which may cut a question short, and after a failed write.
 fn answer_next() -> bool {
-    let mut question = [0u8; 32];
+    let mut question = [0u8; 33];
     let got = io::read_full(STDIN_FILENO, &mut question);
-    if got != 32 {
+    if got != 33 {
         return false;
     }
+    let red = number_at(&question, 9);
+    let green = number_at(&question, 17);
+    let blue = number_at(&question, 25);
+    if question[0] == 1 {
+        return print_answer(convert_codes(red, green, blue));
+    }
     let source = Source {
-        peak: number_at(&question, 0),
+        peak: number_at(&question, 1),
     };
-    print_answer(convert_pixel(
-        source,
-        number_at(&question, 8),
-        number_at(&question, 16),
-        number_at(&question, 24),
-    ))
+    print_answer(convert_pixel(source, red, green, blue))
 }
 
 fn main() {

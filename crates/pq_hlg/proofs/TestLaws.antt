@@ -1,4 +1,4 @@
--- What a passed test says, of a peak and of the row call's answer, and the destination after each answer.
+-- What a passed test says, of a peak, of an RGB code and of the row call's answer, and the destination after each answer.
 use mathlib.Core.Path.{_≡_, sym, _∙_, ap}
 use mathlib.Core.Bool.{false}
 use mathlib.Core.List.{List, _++_}
@@ -13,11 +13,11 @@ use Rattle.eetf.specs.Curve.{peakRead}
 use Rattle.rows.specs.declared.RowAnswer.{RowAnswer}
 use Rattle.rows.specs.declared.RowAnswer.the-variants.{Converted, Refused}
 use Rattle.rows.specs.Row.{spanBytes}
-use Rattle.rows.specs.Answer.{bytesAfter, hostNumber}
+use Rattle.rows.specs.Answer.{outside, bytesAfter, hostNumber}
 use Rattle.rows.proofs.AnswerLaws.{neither, either, refused-not-converted, Accepted, accepted, host-number-fits, refused-after, converted-after}
-use Rattle.span.specs.Span.{convertedInto}
+use Rattle.span.specs.Span.{hlgRead, convertedInto}
 use Rattle.span.proofs.SpanLaws.{filled}
-use Rattle.pq_hlg.specs.Pixel.{peakRefused, sampleRefused}
+use Rattle.pq_hlg.specs.Pixel.{peakRefused, sampleRefused, codeRefused}
 use Rattle.pq_hlg.specs.Row.{rowAnswer}
 
 pub peak-taken : (peak : ℕ) → peakRefused peak ≡ false → (1 ≤ peak) × (peak ≤ 10000)
@@ -32,6 +32,15 @@ peak-taken peak e =
 -- a peak that is taken is read as it is
 pub peak-read : (peak : ℕ) → peakRefused peak ≡ false → peakRead peak ≡ peak
 peak-read peak e = let t = peak-taken peak e in omega arith
+
+-- an RGB code that is taken is read as it is
+pub code-read : (d : ℕ) → codeRefused d ≡ false → hlgRead d ≡ d
+unfolding outside
+code-read d e =
+    let t = neither (ltb d 64) (ltb 1019 d) e in
+    let least = ltb-false d 64 (t .0) in
+    let most = ltb-false 1019 d (t .1) in
+    omega arith
 
 module _ (source : Source) (row : List ℕ) (bytes first end : ℕ) where
   -- what a row call has tested where it converts

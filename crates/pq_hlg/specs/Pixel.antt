@@ -1,5 +1,5 @@
--- The pixel call (scope, What stops a call): what it refuses, and its answer. Samples are ten-bit code values; what is declared of the source is its
--- peak, in whole cd/m2. A pixel call tests refusal 5, then 9.
+-- The pixel calls (scope, What stops a call; request 04: Y'CbCr): what they refuse, and their answers. Samples are ten-bit code values; what is declared
+-- of the source is its peak, in whole cd/m2. The call on PQ codes tests refusal 5, then 9; the one on RGB codes 14.
 use mathlib.Core.Bool.{Bool, cond, _||_}
 use Prim.Native.Nat.{ℕ}
 use lib.Dec.{eqb, ltb}
@@ -8,6 +8,7 @@ use Rattle.quantity.specs.Component.{red, green, blue, Pixel}
 use Rattle.pixel.specs.Conversion.{code}
 use Rattle.distance.specs.Demand.{Voted}
 use Rattle.rows.specs.Answer.{outside}
+use Rattle.ycbcr.specs.YCbCr.{luma, cb, cr}
 use Rattle.pq_hlg.specs.declared.PixelAnswer.{PixelAnswer}
 use Rattle.pq_hlg.specs.declared.PixelAnswer.the-variants.{Codes, Refused}
 
@@ -27,6 +28,15 @@ pixelAnswer source p =
     (cond (sampleRefused (p green)) (Refused 9 1)
     (cond (sampleRefused (p blue)) (Refused 9 2)
     (let codes = code (source .peak) p in Codes (codes red) (codes green) (codes blue)))))
+
+-- refusal 14: an RGB code below 64 or above 1,019
+abbrev pub codeRefused : ℕ → Bool
+codeRefused = outside 64 1019
+
+-- what the call on RGB codes answers: the refusal, whose place is 0 whichever code it is, or luma, Cb, Cr
+unfoldable pub ycbcrAnswer : Pixel → PixelAnswer
+ycbcrAnswer p =
+    cond (codeRefused (p red) || codeRefused (p green) || codeRefused (p blue)) (Refused 14 0) (Codes (luma p) (cb p) (cr p))
 
 -- demand 3 of the pixel, where the call gives codes
 unfoldable pub VotedWhere : PixelAnswer → Source → Pixel → Type 0

@@ -1,25 +1,33 @@
-// The engine's calls: one pixel, a span of a row, and the row call for a host in C. Samples are ten-bit narrow-range code values, PQ in and
-// HLG out; a peak is in whole cd/m2.
+// The engine's calls: one pixel, its Y'CbCr, a span of a row as RGB or as Y'CbCr, and the row calls for a host in C. Samples are ten-bit narrow-range
+// code values, PQ in and HLG out; a peak is in whole cd/m2.
 ghost use mathlib.Core.Path.{_≡_};
 ghost use Prim.Native.Nat.{_≤_};
 ghost use lib.ListN.{length};
 ghost use Rattle.quantity.specs.Component.{pixel};
 ghost use Rattle.rows.specs.Answer.{hostNumber};
-ghost use Rattle.pq_hlg.specs.Pixel.{peakRefused, pixelAnswer, VotedWhere};
-ghost use Rattle.pq_hlg.specs.Row.{rowAnswer, destinationAfter, sourceOf};
+ghost use Rattle.ycbcr.specs.declared.SignalFormat.the-variants.{YCbCr};
+ghost use Rattle.pq_hlg.specs.Pixel.{peakRefused, pixelAnswer, ycbcrAnswer, VotedWhere};
+ghost use Rattle.pq_hlg.specs.Row.{rowAnswer, deliveredAfter, destinationAfter, sourceOf};
 use quantity::Source;
 use rows::RowAnswer;
 use rows::is_outside;
 use rows::test_span;
 use span::convert_span;
 use span::pixel_codes;
+use span::ycbcr_codes;
+use ycbcr::SignalFormat;
 
 // The samples that are taken: the interface keeps the codes below and above for its timing.
 pub const LEAST_SAMPLE: u64 = 4;
 
 pub const MOST_SAMPLE: u64 = 1019;
 
-// The HLG codes of a pixel, or a refusal: its number and its place.
+// The codes that HLG has.
+const LEAST_CODE: u64 = 64;
+
+const MOST_CODE: u64 = 1019;
+
+// The three codes of a pixel, or a refusal: its number and its place.
 pub enum PixelAnswer {
     Codes(u64, u64, u64),
     Refused(u64, u64),
@@ -46,6 +54,23 @@ pub fn convert_pixel(source: Source, red: u64, green: u64, blue: u64) -> PixelAn
     PixelAnswer::Codes(codes.red, codes.green, codes.blue)
 }
 
+// Luma, Cb and Cr of three RGB codes. Refuses 14, with place 0: a code that HLG does not have.
+pub fn convert_codes(red: u64, green: u64, blue: u64) -> PixelAnswer
+    ensures { λ r. ⌜ r ≡ ycbcrAnswer (pixel red green blue) ⌝ }
+{
+    if is_outside(red, LEAST_CODE, MOST_CODE) {
+        return PixelAnswer::Refused(14, 0);
+    }
+    if is_outside(green, LEAST_CODE, MOST_CODE) {
+        return PixelAnswer::Refused(14, 0);
+    }
+    if is_outside(blue, LEAST_CODE, MOST_CODE) {
+        return PixelAnswer::Refused(14, 0);
+    }
+    let codes = ycbcr_codes(red, green, blue);
+    PixelAnswer::Codes(codes.first, codes.second, codes.third)
+}
+
 // The pixels first to end - 1 of a row, converted into the same places of a destination, whose other bytes remain. Refuses 5 to 9 and then
 // leaves every byte.
 pub fn convert_row(
@@ -58,14 +83,21 @@ pub fn convert_row(
     ensures { λ r. ⌜ (r ≡ rowAnswer source (now (row .entry)) (length (now (dst .entry))) first end)
         × (now (dst .exit) ≡ destinationAfter source (now (row .entry)) (now (dst .entry)) first end) ⌝ }
 {
-    let answer = test_row(source, row, dst.len(), first, end);
-    if let RowAnswer::Refused(_, _) = answer {
-        return answer;
-    }
-    let from = 6 * first;
-    let to = 6 * end;
-    convert_span(source, &row[from..], &mut dst[from..to]);
-    RowAnswer::Converted
+    deliver_row(source, SignalFormat::Rgb, row, dst, first, end)
+}
+
+// The same pixels as luma, Cb and Cr of their HLG codes, in this order, where that call writes red, green and blue.
+pub fn convert_row_ycbcr(
+    source: Source,
+    row: &[u8],
+    dst: &mut [u8],
+    first: usize,
+    end: usize,
+) -> RowAnswer
+    ensures { λ r. ⌜ (r ≡ rowAnswer source (now (row .entry)) (length (now (dst .entry))) first end)
+        × (now (dst .exit) ≡ deliveredAfter YCbCr source (now (row .entry)) (now (dst .entry)) first end) ⌝ }
+{
+    deliver_row(source, SignalFormat::YCbCr, row, dst, first, end)
 }
 
 // The row call for a host in C: 0, or the refusal plus 256 times its place.
@@ -81,6 +113,43 @@ pub extern "C" fn pq_hlg_convert_row(
         × (now (dst .exit) ≡ destinationAfter (sourceOf peak) (now (row .entry)) (now (dst .entry)) first end) ⌝ }
 {
     host_number(convert_row(Source { peak: peak }, row, dst, first, end))
+}
+
+// The Y'CbCr row call for a host in C: the same number.
+#[no_mangle]
+pub extern "C" fn pq_hlg_convert_row_ycbcr(
+    peak: u64,
+    row: &[u8],
+    dst: &mut [u8],
+    first: usize,
+    end: usize,
+) -> u64
+    ensures { λ r. ⌜ (r ≡ hostNumber (rowAnswer (sourceOf peak) (now (row .entry)) (length (now (dst .entry))) first end))
+        × (now (dst .exit) ≡ deliveredAfter YCbCr (sourceOf peak) (now (row .entry)) (now (dst .entry)) first end) ⌝ }
+{
+    host_number(convert_row_ycbcr(Source { peak: peak }, row, dst, first, end))
+}
+
+// A row call in a signal format: the tests, then the span.
+fn deliver_row(
+    source: Source,
+    format: SignalFormat,
+    row: &[u8],
+    dst: &mut [u8],
+    first: usize,
+    end: usize,
+) -> RowAnswer
+    ensures { λ r. ⌜ (r ≡ rowAnswer source (now (row .entry)) (length (now (dst .entry))) first end)
+        × (now (dst .exit) ≡ deliveredAfter format source (now (row .entry)) (now (dst .entry)) first end) ⌝ }
+{
+    let answer = test_row(source, row, dst.len(), first, end);
+    if let RowAnswer::Refused(_, _) = answer {
+        return answer;
+    }
+    let from = 6 * first;
+    let to = 6 * end;
+    convert_span(source, format, &row[from..], &mut dst[from..to]);
+    RowAnswer::Converted
 }
 
 // The number for a host, of the answers there are: no refused sample lies past the longest row.

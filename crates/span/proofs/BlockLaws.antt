@@ -1,5 +1,5 @@
--- Laws of a block's passes: one pixel more mapped, one root more, and the bytes of the mapped pixels as those of the span.
-use mathlib.Core.Path.{_≡_, refl, sym, _∙_, ap, ap₂}
+-- Laws of a block's passes: one pixel more mapped, one root more, and the bytes of the mapped pixels as those of the span, in either signal format.
+use mathlib.Core.Path.{_≡_, refl, sym, _∙_, ap, ap₂, fun-ext}
 use mathlib.Core.List.{List, _++_}
 use Prim.Native.Nat.{ℕ, zero, suc, _+_, _*_, _≤_, _<_}
 use native.Mathlib.Nat.{zero-add}
@@ -11,13 +11,16 @@ use lib.Seq.{getD-set-same, getD-set-other}
 use Rattle.quantity.specs.Units.{thousand}
 use Rattle.quantity.specs.Component.{Component, red, green, blue, Pixel, pixel}
 use Rattle.position.proofs.LightLaws.{code-light-at, first-light}
-use Rattle.hlg.specs.Code.{luminance, HlgCodes}
+use Rattle.hlg.specs.Code.{luminance, hlgCode, HlgCodes}
 use Rattle.hlg.specs.Root.{IsRoot}
-use Rattle.hlg.proofs.CodeLaws.{code-to, code-black}
+use Rattle.hlg.proofs.CodeLaws.{code-from, code-to, code-black}
 use Rattle.pixel.specs.Conversion.{brightestLight, mapped, code}
 use Rattle.pixel.proofs.PixelLaws.{mapped-dark, mapped-at-most}
 use Rattle.rows.specs.Row.{pixelAt, pixelBytes, spanBytes}
-use Rattle.span.specs.Block.{HasMapped, wordsAt, storedAt, luminanceAt, MappedTo, Within, RootsTo, codedBytes, blockBytes}
+use Rattle.ycbcr.specs.declared.SignalFormat.{SignalFormat}
+use Rattle.ycbcr.specs.Delivery.{inFormat, delivered}
+use Rattle.ycbcr.proofs.DeliveryLaws.{format-at-most}
+use Rattle.span.specs.Block.{HasMapped, wordsAt, storedAt, luminanceAt, MappedTo, Within, RootsTo, samplesOf, HasSamples, blockBytes}
 
 -- black is mapped to no light
 no-light : brightestLight (pixel 64 64 64) ≡ 0
@@ -99,43 +102,67 @@ unfolding RootsTo
 roots-more words roots j g before here room =
     below-more _ j (λ k h. rw (getD-set-other roots j k g 0 (λ e. omega arith)) (before k h)) (rw (getD-set-same roots j g 0 room) here)
 
--- the bytes of the mapped pixels are those of the span
-coded-is-pixel : (peak : ℕ) (p q : Pixel) → ((i : Component) → p i ≡ mapped peak q i) → codedBytes p ≡ pixelBytes (code peak q)
-unfolding codedBytes pixelBytes code
-coded-is-pixel peak p q e = rw (e red, e green, e blue)
+module _ (format : SignalFormat) where
+  -- the samples of the mapped pixels are those of the span, and so are the bytes
+  samples-of-pixel : (peak : ℕ) (p q : Pixel) → ((i : Component) → p i ≡ mapped peak q i) → samplesOf format p ≡ delivered format peak q
+  unfolding code
+  samples-of-pixel peak p q e = ap (samplesOf format) (fun-ext e)
 
-pub block-is-span : (peak : ℕ) (row words : List ℕ) (n : ℕ) → MappedTo peak row words n → blockBytes words n ≡ spanBytes (code peak) row 0 n
-unfolding MappedTo blockBytes spanBytes
-block-is-span peak row words zero m = refl
-block-is-span peak row words (suc n) m =
-    let here = coded-is-pixel peak (wordsAt words n) (pixelAt row n) (m n (omega arith)) in
-    let at : pixelAt row n ≡ pixelAt row (0 + n) = ap (pixelAt row) (sym (zero-add n)) in
-    ap₂ (λ (l r : List ℕ). l ++ r) (block-is-span peak row words n (λ k h. m k (omega arith))) (here ∙ ap (λ (p : Pixel). pixelBytes (code peak p)) at)
+  pub block-is-span : (peak : ℕ) (row words : List ℕ) (n : ℕ) → MappedTo peak row words n
+      → blockBytes format words n ≡ spanBytes (delivered format peak) row 0 n
+  unfolding MappedTo blockBytes spanBytes
+  block-is-span peak row words zero m = refl
+  block-is-span peak row words (suc n) m =
+      let here = samples-of-pixel peak (wordsAt words n) (pixelAt row n) (m n (omega arith)) in
+      let at : pixelAt row n ≡ pixelAt row (0 + n) = ap (pixelAt row) (sym (zero-add n)) in
+      ap₂ (λ (l : List ℕ) (p : Pixel). l ++ pixelBytes p) (block-is-span peak row words n (λ k h. m k (omega arith))) (here ∙ ap (delivered format peak) at)
 
--- the bytes of one pixel more
-pub block-more : (words : List ℕ) (n : ℕ) → blockBytes words (n + 1) ≡ blockBytes words n ++ codedBytes (wordsAt words n)
-unfolding blockBytes
-block-more words n = ap (blockBytes words) (add-one n)
+  -- the bytes of one pixel more
+  pub block-more : (words : List ℕ) (n : ℕ) → blockBytes format words (n + 1) ≡ blockBytes format words n ++ pixelBytes (samplesOf format (wordsAt words n))
+  unfolding blockBytes
+  block-more words n = ap (blockBytes format words) (add-one n)
 
-length-coded : (p : Pixel) → length (codedBytes p) ≡ 6
-unfolding codedBytes pixelBytes
-length-coded p = refl
+  pub length-block : (words : List ℕ) (n : ℕ) → length (blockBytes format words n) ≡ 6 * n
+  unfolding blockBytes pixelBytes
+  length-block words zero = refl
+  length-block words (suc n) =
+      length-append (blockBytes format words n) (pixelBytes (samplesOf format (wordsAt words n))) ∙ omega (arith, length-block words n)
 
-pub length-block : (words : List ℕ) (n : ℕ) → length (blockBytes words n) ≡ 6 * n
-unfolding blockBytes
-length-block words zero = refl
-length-block words (suc n) =
-    length-append (blockBytes words n) (codedBytes (wordsAt words n)) ∙ omega (arith, length-block words n, length-coded (wordsAt words n))
+  -- what is delivered of codes is delivered of their components
+  pub has-samples : {R G B r g b x y z : ℕ} → HlgCodes R G B r g b
+      → (x ≡ inFormat format (pixel r g b) red) × (y ≡ inFormat format (pixel r g b) green) × (z ≡ inFormat format (pixel r g b) blue)
+      → HasSamples format R G B x y z
+  has-samples {R} {G} {B} {r} {g} {b} h s =
+      let codes : pixel r g b ≡ (λ i. hlgCode (luminance R G B) (pixel R G B i)) =
+      fun-ext (elim [ red ↦ h .red | green ↦ h .green | blue ↦ h .blue ]) in
+      let same : (i : Component) → inFormat format (pixel r g b) i ≡ samplesOf format (pixel R G B) i = λ i. ap (λ (p : Pixel). inFormat format p i) codes in
+      record { first = s .0 ∙ same red; second = s .1 ∙ same green; third = s .2 ∙ same blue }
 
--- codes fit ten bits, and their bytes are those of the block
-pub codes-fit : {R G B r g b : ℕ} → HlgCodes R G B r g b → (r ≤ 1019) × (g ≤ 1019) × (b ≤ 1019)
+  -- samples fit ten bits, and their bytes are those of the block
+  pub samples-fit : {R G B x y z : ℕ} → HasSamples format R G B x y z → (x ≤ 1019) × (y ≤ 1019) × (z ≤ 1019)
+  samples-fit {R} {G} {B} h =
+      let Y = luminance R G B in
+      let p = pixel R G B in
+      let top = format-at-most format (λ i. hlgCode Y (p i)) (record { least = λ i. code-from Y (p i); most = λ i. code-to Y (p i) }) in
+      (omega (arith, h .first, top red), omega (arith, h .second, top green), omega (arith, h .third, top blue))
+
+  pub sample-bytes : (p : Pixel) {x y z : ℕ} → HasSamples format (p red) (p green) (p blue) x y z → pixelBytes (pixel x y z) ≡ pixelBytes (samplesOf format p)
+  unfolding pixelBytes
+  sample-bytes p h =
+      let whole : pixel (p red) (p green) (p blue) ≡ p = fun-ext (elim [ red ↦ refl | green ↦ refl | blue ↦ refl ]) in
+      rw (h .first, h .second, h .third) (ap (λ (q : Pixel). pixelBytes (samplesOf format q)) whole)
+
+-- HLG codes lie in their range
+pub codes-fit : {R G B r g b : ℕ} → HlgCodes R G B r g b → (64 ≤ r) × (r ≤ 1019) × (64 ≤ g) × (g ≤ 1019) × (64 ≤ b) × (b ≤ 1019)
 codes-fit {R} {G} {B} h =
-    let top = code-to (luminance R G B) in
-    (omega (arith, h .red, top R), omega (arith, h .green, top G), omega (arith, h .blue, top B))
-
-pub coded-bytes : (p : Pixel) {r g b : ℕ} → HlgCodes (p red) (p green) (p blue) r g b → pixelBytes (pixel r g b) ≡ codedBytes p
-unfolding codedBytes pixelBytes
-coded-bytes p h = rw (h .red, h .green, h .blue)
+    let Y = luminance R G B in (
+      omega (arith, h .red, code-from Y R),
+      omega (arith, h .red, code-to Y R),
+      omega (arith, h .green, code-from Y G),
+      omega (arith, h .green, code-to Y G),
+      omega (arith, h .blue, code-from Y B),
+      omega (arith, h .blue, code-to Y B),
+    )
 
 -- no light has the codes of black
 pub black-coded : {R G B r g b : ℕ} → R ≡ 0 → G ≡ 0 → B ≡ 0 → r ≡ 64 → g ≡ 64 → b ≡ 64 → HlgCodes R G B r g b

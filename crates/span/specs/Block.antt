@@ -10,6 +10,8 @@ use Rattle.hlg.specs.Code.{luminance, hlgCode}
 use Rattle.hlg.specs.Root.{IsRoot}
 use Rattle.pixel.specs.Conversion.{mapped}
 use Rattle.rows.specs.Row.{pixelAt, pixelBytes}
+use Rattle.ycbcr.specs.declared.SignalFormat.{SignalFormat}
+use Rattle.ycbcr.specs.Delivery.{inFormat}
 
 -- x, y, z are the mapped components of the pixel r g b
 pub record HasMapped (peak r g b x y z : ℕ) : Type 0 where
@@ -39,10 +41,17 @@ Within words n = (j : ℕ) → j < n → (i : Component) → wordsAt words j i �
 unfoldable pub RootsTo : List ℕ → List ℕ → ℕ → Type 0
 RootsTo words roots n = (j : ℕ) → j < n → IsRoot (getD roots j 0) (luminanceAt words j)
 
--- the bytes of the HLG codes of three mapped components, and of the first n pixels
-unfoldable pub codedBytes : Pixel → List ℕ
-codedBytes p = pixelBytes (λ i. hlgCode (luminance (p red) (p green) (p blue)) (p i))
+-- the samples that a format delivers of three mapped components, by their HLG codes
+abbrev pub samplesOf : SignalFormat → Pixel → Pixel
+samplesOf format p = inFormat format (λ i. hlgCode (luminance (p red) (p green) (p blue)) (p i))
 
-unfoldable pub blockBytes : List ℕ → ℕ → List ℕ
-blockBytes words zero = []
-blockBytes words (suc n) = blockBytes words n ++ codedBytes (wordsAt words n)
+-- x, y, z are those of R, G, B
+pub record HasSamples (format : SignalFormat) (R G B x y z : ℕ) : Type 0 where
+  pub first : x ≡ samplesOf format (pixel R G B) red
+  pub second : y ≡ samplesOf format (pixel R G B) green
+  pub third : z ≡ samplesOf format (pixel R G B) blue
+
+-- the bytes of the samples of the first n pixels
+unfoldable pub blockBytes : SignalFormat → List ℕ → ℕ → List ℕ
+blockBytes format words zero = []
+blockBytes format words (suc n) = blockBytes format words n ++ pixelBytes (samplesOf format (wordsAt words n))

@@ -1,17 +1,27 @@
--- The conversion of any pixels under any declared peak (scope, HLG code; Reviewer's questions: a stage reads its range's nearer end). The peak is in
--- whole cd/m2, codes are ten-bit, lists are bytes.
+-- The conversion of any pixels under any declared peak (scope, HLG code; Reviewer's questions: a stage reads its range's nearer end), in either signal
+-- format (request 04). The peak is in whole cd/m2, codes are ten-bit, lists are bytes.
 use mathlib.Core.List.{List}
-use Prim.Native.Nat.{ℕ, min, _/_}
+use Prim.Native.Nat.{ℕ, max, min, _/_}
 use lib.ListN.{length}
 use Rattle.quantity.specs.declared.Source.{Source}
 use Rattle.quantity.specs.Component.{Pixel}
 use Rattle.eetf.specs.Curve.{peakRead}
 use Rattle.pixel.specs.Conversion.{code}
 use Rattle.rows.specs.Row.{withSpan}
+use Rattle.ycbcr.specs.declared.SignalFormat.{SignalFormat}
+use Rattle.ycbcr.specs.Delivery.{delivered}
 
 -- the HLG codes of a pixel under the declared peak as it is read
 abbrev pub codesUnder : Source → Pixel → Pixel
 codesUnder source = code (peakRead (source .peak))
+
+-- what a format delivers of them
+abbrev pub deliveredUnder : SignalFormat → Source → Pixel → Pixel
+deliveredUnder format source = delivered format (peakRead (source .peak))
+
+-- an RGB code as it is read: HLG has none below 64 and none above 1,019
+abbrev pub hlgRead : ℕ → ℕ
+hlgRead d = min (max d 64) 1019
 
 -- a destination that was filled from src by a conversion of a pixel: as many whole pixels as both have, the other bytes as they were
 abbrev pub convertedInto : (Pixel → Pixel) → List ℕ → List ℕ → List ℕ

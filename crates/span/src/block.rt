@@ -1,18 +1,22 @@
-// A block of up to 32 pixels of a span, in three passes: mapped components, roots of their luminances, codes. Within a pass no pixel waits for another, so
-// a processor works on several at once. A pixel that equals the one before it takes over what that was given: flat areas are mostly such pixels.
+// A block of up to 32 pixels of a span, in three passes: mapped components, roots of their luminances, codes and what is delivered of them. Within a pass
+// no pixel waits for another, so a processor works on several at once. A pixel that equals the one before it takes over what that was given: flat areas
+// are mostly such pixels.
 ghost use mathlib.Core.Path.{_≡_};
 ghost use Prim.Native.Nat.{_*_, _≤_, _<_};
 ghost use lib.ListN.{length};
 ghost use Rattle.quantity.specs.Units.{units, thousand};
-ghost use Rattle.quantity.specs.Component.{red, green, blue, pixel};
+ghost use Rattle.quantity.specs.Component.{red, green, blue};
 ghost use Rattle.pq.specs.LightTable.{lightTable};
 ghost use Rattle.position.specs.Position.{positionOf};
 ghost use Rattle.hlg_steps.specs.StepTable.{stepTable};
-ghost use Rattle.hlg.specs.Code.{luminance, HlgCodes};
+ghost use Rattle.hlg.specs.Code.{luminance};
 ghost use Rattle.hlg.specs.Root.{IsRoot};
-ghost use Rattle.pixel.specs.Conversion.{code};
-ghost use Rattle.rows.specs.Row.{sampleAt, pixelBytes, spanBytes};
-ghost use Rattle.span.specs.Block.{HasMapped, wordsAt, storedAt, MappedTo, Within, RootsTo, blockBytes};
+ghost use Rattle.rows.specs.Row.{sampleAt, spanBytes};
+ghost use Rattle.ycbcr.specs.Delivery.{delivered};
+ghost use Rattle.span.specs.Block.{HasMapped, wordsAt, storedAt, MappedTo, Within, RootsTo, HasSamples, blockBytes};
+use crate::Samples;
+use crate::delivery::samples_in;
+use crate::delivery::write_samples;
 use crate::mapping::Mapped;
 use crate::mapping::mapped_lights;
 use crate::near::near_codes;
@@ -21,6 +25,7 @@ use crate::root::weigh;
 use hlg::Codes;
 use quantity::Position;
 use rows::sample_at;
+use ycbcr::SignalFormat;
 
 // The pixels that fill dst, at most a block of them, converted from the first ones of src.
 pub(crate) fn convert_block(
@@ -29,19 +34,20 @@ pub(crate) fn convert_block(
     hints: &[u64; 1361],
     w: Position,
     peak: u64,
+    format: SignalFormat,
     src: &[u8],
     dst: &mut [u8],
     pixels: usize,
 )
     requires { ⌜ (now lights ≡ lightTable) × (now steps ≡ stepTable) × (w .0 ≡ positionOf (peak * units)) × (pixels ≤ 32)
         × (length (now dst) ≡ 6 * pixels) × (6 * pixels ≤ length (now src)) ⌝ }
-    ensures { λ _. ⌜ now (dst .exit) ≡ spanBytes (code peak) (now (src .entry)) 0 pixels ⌝ }
+    ensures { λ _. ⌜ now (dst .exit) ≡ spanBytes (delivered format peak) (now (src .entry)) 0 pixels ⌝ }
 {
     let mut mapped = [0u64; 96];
     let mut roots = [0u64; 32];
     map_pixels(lights, hints, w, peak, src, &mut mapped, pixels);
     find_roots(hints, &mapped, &mut roots, pixels);
-    code_pixels(steps, hints, &mapped, &roots, dst, pixels);
+    code_pixels(steps, hints, format, &mapped, &roots, dst, pixels);
 }
 
 // A pixel's samples and its mapped components.
@@ -191,17 +197,17 @@ fn find_roots(hints: &[u64; 1361], words: &[u64; 96], roots: &mut [u64; 32], pix
     }
 }
 
-// Three mapped components and their codes.
+// Three mapped components and the samples that are delivered of their codes.
 struct CodedPixel {
     red: u64,
     green: u64,
     blue: u64,
-    codes: Codes,
+    samples: Samples,
 }
 
-// No light, and the codes of black.
-fn coded_black() -> CodedPixel
-    ensures { λ c. ⌜ (c .red ≡ 0) × (c .green ≡ 0) × (c .blue ≡ 0) × (c .codes .red ≡ 64) × (c .codes .green ≡ 64) × (c .codes .blue ≡ 64) ⌝ }
+// No light, and what is delivered of black.
+fn coded_black(format: SignalFormat) -> CodedPixel
+    ensures { λ c. ⌜ HasSamples format (c .red) (c .green) (c .blue) (c .samples .first) (c .samples .second) (c .samples .third) ⌝ }
 {
     let codes = Codes {
         red: 64,
@@ -212,14 +218,15 @@ fn coded_black() -> CodedPixel
         red: 0,
         green: 0,
         blue: 0,
-        codes: codes,
+        samples: samples_in(format, codes),
     }
 }
 
-// Three mapped components with their codes; as the last where they equal those.
+// Three mapped components with their samples; as the last where they equal those.
 fn code_next(
     steps: &[u64; 955],
     hints: &[u64; 1361],
+    format: SignalFormat,
     last: CodedPixel,
     root: u64,
     red: u64,
@@ -227,8 +234,9 @@ fn code_next(
     blue: u64,
 ) -> CodedPixel
     requires { ⌜ (now steps ≡ stepTable) × (red ≤ thousand) × (green ≤ thousand) × (blue ≤ thousand) × IsRoot root (luminance red green blue)
-        × HlgCodes (last .red) (last .green) (last .blue) (last .codes .red) (last .codes .green) (last .codes .blue) ⌝ }
-    ensures { λ c. ⌜ (c .red ≡ red) × (c .green ≡ green) × (c .blue ≡ blue) × HlgCodes red green blue (c .codes .red) (c .codes .green) (c .codes .blue) ⌝ }
+        × HasSamples format (last .red) (last .green) (last .blue) (last .samples .first) (last .samples .second) (last .samples .third) ⌝ }
+    ensures { λ c. ⌜ (c .red ≡ red) × (c .green ≡ green) × (c .blue ≡ blue)
+        × HasSamples format red green blue (c .samples .first) (c .samples .second) (c .samples .third) ⌝ }
 {
     if red == last.red {
         if green == last.green {
@@ -242,27 +250,15 @@ fn code_next(
         red: red,
         green: green,
         blue: blue,
-        codes: codes,
+        samples: samples_in(format, codes),
     }
 }
 
-// The six bytes of three codes, each high byte first.
-fn write_codes(codes: Codes, dst: &mut [u8])
-    requires { ⌜ (length (now dst) ≡ 6) × (codes .red ≤ 1019) × (codes .green ≤ 1019) × (codes .blue ≤ 1019) ⌝ }
-    ensures { λ _. ⌜ now (dst .exit) ≡ pixelBytes (pixel (codes .red) (codes .green) (codes .blue)) ⌝ }
-{
-    dst[0] = (codes.red / 256) as u8;
-    dst[1] = (codes.red % 256) as u8;
-    dst[2] = (codes.green / 256) as u8;
-    dst[3] = (codes.green % 256) as u8;
-    dst[4] = (codes.blue / 256) as u8;
-    dst[5] = (codes.blue % 256) as u8;
-}
-
-// The third pass: the bytes of each pixel's codes.
+// The third pass: the bytes of what is delivered of each pixel's codes.
 fn code_pixels(
     steps: &[u64; 955],
     hints: &[u64; 1361],
+    format: SignalFormat,
     words: &[u64; 96],
     roots: &[u64; 32],
     dst: &mut [u8],
@@ -270,17 +266,17 @@ fn code_pixels(
 )
     requires { ⌜ (now steps ≡ stepTable) × (pixels ≤ 32) × Within (now words) pixels × RootsTo (now words) (now roots) pixels
         × (length (now dst) ≡ 6 * pixels) ⌝ }
-    ensures { λ _. ⌜ now (dst .exit) ≡ blockBytes (now (words .entry)) pixels ⌝ }
+    ensures { λ _. ⌜ now (dst .exit) ≡ blockBytes format (now (words .entry)) pixels ⌝ }
 {
-    let mut last = coded_black();
+    let mut last = coded_black(format);
     let mut j = 0;
     while j < pixels {
         let from = 6 * j;
         let to = from + 6;
         let m = words_of(words, j);
-        last = code_next(steps, hints, last, roots[j], m.red, m.green, m.blue);
-        let codes = last.codes;
-        write_codes(codes, &mut dst[from..to]);
+        last = code_next(steps, hints, format, last, roots[j], m.red, m.green, m.blue);
+        let samples = last.samples;
+        write_samples(samples, &mut dst[from..to]);
         j += 1;
     }
 }

@@ -1,6 +1,7 @@
-// The fast conversion, of a span and of one pixel: any samples under any declared peak. What pixels share, the tables and the peak's position, is found
-// once a call and lent.
+// The fast conversion, of a span in either signal format and of one pixel: any samples under any declared peak. What pixels share, the tables and the
+// peak's position, is found once a call and lent.
 mod block;
+mod delivery;
 mod hint_table;
 mod hints;
 mod mapping;
@@ -16,10 +17,12 @@ ghost use Rattle.quantity.specs.Component.{red, green, blue, pixel};
 ghost use Rattle.pq.specs.LightTable.{lightTable};
 ghost use Rattle.position.specs.Position.{positionOf};
 ghost use Rattle.hlg_steps.specs.StepTable.{stepTable};
-ghost use Rattle.pixel.specs.Conversion.{code};
 ghost use Rattle.rows.specs.Row.{spanBytes};
-ghost use Rattle.span.specs.Span.{codesUnder, convertedInto};
+ghost use Rattle.ycbcr.specs.YCbCr.{luma, cb, cr};
+ghost use Rattle.ycbcr.specs.Delivery.{delivered};
+ghost use Rattle.span.specs.Span.{codesUnder, deliveredUnder, hlgRead, convertedInto};
 use block::convert_block;
+use delivery::luma_and_chroma;
 use eetf::read_peak;
 use hints::hint_table;
 use hlg::Codes;
@@ -31,14 +34,24 @@ use quantity::DisplayLight;
 use quantity::Position;
 use quantity::Source;
 use quantity::UNITS;
+use quantity::larger;
+use quantity::smaller;
 use root::lower_root;
 use root::weigh;
 use rows::fewer;
+use ycbcr::SignalFormat;
+
+// The three samples of a delivered pixel, in the order of a row.
+pub struct Samples {
+    pub first: u64,
+    pub second: u64,
+    pub third: u64,
+}
 
 // The pixels that fill dst, converted from the first ones of src: as many whole ones as both have. Other bytes of dst remain. An empty span needs
 // no table.
-pub fn convert_span(source: Source, src: &[u8], dst: &mut [u8])
-    ensures { λ _. ⌜ now (dst .exit) ≡ convertedInto (codesUnder source) (now (src .entry)) (now (dst .entry)) ⌝ }
+pub fn convert_span(source: Source, format: SignalFormat, src: &[u8], dst: &mut [u8])
+    ensures { λ _. ⌜ now (dst .exit) ≡ convertedInto (deliveredUnder format source) (now (src .entry)) (now (dst .entry)) ⌝ }
 {
     let pixels = fewer(src.len(), dst.len()) / 6;
     if pixels == 0 {
@@ -49,7 +62,7 @@ pub fn convert_span(source: Source, src: &[u8], dst: &mut [u8])
     let w = fill_lights(&mut lights, DisplayLight(peak * UNITS));
     let steps = step_table();
     let hints = hint_table();
-    convert_blocks(&lights, &steps, &hints, w, peak, src, dst, pixels);
+    convert_blocks(&lights, &steps, &hints, w, peak, format, src, dst, pixels);
 }
 
 // The HLG codes of one pixel, for which alone the tables are filled.
@@ -67,6 +80,22 @@ pub fn pixel_codes(source: Source, r: u64, g: u64, b: u64) -> Codes
     near_codes(&steps, &hints, root, m.red, m.green, m.blue)
 }
 
+// Luma, Cb and Cr of three RGB codes.
+pub fn ycbcr_codes(red: u64, green: u64, blue: u64) -> Samples
+    ensures { λ s. ⌜ (s .first ≡ luma (pixel (hlgRead red) (hlgRead green) (hlgRead blue)))
+        × (s .second ≡ cb (pixel (hlgRead red) (hlgRead green) (hlgRead blue)))
+        × (s .third ≡ cr (pixel (hlgRead red) (hlgRead green) (hlgRead blue))) ⌝ }
+{
+    luma_and_chroma(read_hlg(red), read_hlg(green), read_hlg(blue))
+}
+
+// A code that HLG does not have is read as the nearer end of those that it has.
+fn read_hlg(d: u64) -> u64
+    ensures { λ r. ⌜ r ≡ hlgRead d ⌝ }
+{
+    smaller(larger(d, 64), 1019)
+}
+
 // The first pixels of dst, converted from those of src, block by block. Other bytes of dst remain.
 fn convert_blocks(
     lights: &[u64; 3505],
@@ -74,13 +103,14 @@ fn convert_blocks(
     hints: &[u64; 1361],
     w: Position,
     peak: u64,
+    format: SignalFormat,
     src: &[u8],
     dst: &mut [u8],
     pixels: usize,
 )
     requires { ⌜ (now lights ≡ lightTable) × (now steps ≡ stepTable) × (w .0 ≡ positionOf (peak * units))
         × (6 * pixels ≤ length (now dst)) × (6 * pixels ≤ length (now src)) ⌝ }
-    ensures { λ _. ⌜ now (dst .exit) ≡ spanBytes (code peak) (now (src .entry)) 0 pixels ++ drop (6 * pixels) (now (dst .entry)) ⌝ }
+    ensures { λ _. ⌜ now (dst .exit) ≡ spanBytes (delivered format peak) (now (src .entry)) 0 pixels ++ drop (6 * pixels) (now (dst .entry)) ⌝ }
 {
     let mut j = 0;
     while j < pixels {
@@ -93,6 +123,7 @@ fn convert_blocks(
             hints,
             w,
             peak,
+            format,
             &src[from..to],
             &mut dst[from..to],
             count,

@@ -3,8 +3,8 @@ use mathlib.Core.Path.{sym}
 use native.Mathlib.Omega.{arith}
 use borrow.Author.Needs.{needs}
 use Rattle.quantity.specs.Units.{units}
-use Rattle.pixel.specs.Conversion.{code}
 use Rattle.rows.proofs.RowLaws.{no-pixels}
+use Rattle.ycbcr.specs.Delivery.{delivered}
 use Rattle.span.proofs.SpanLaws.{begun}
 use Rattle.span.proofs.convert_span.Statement.{statement}
 use Rattle.span.proofs.convert_span.Tie as tie
@@ -22,7 +22,8 @@ returns-2 : tie.Need-returns-2
 returns-2 c =
     let a = c .before .before .before .before .before .before .before .before .before .before .before .before .before .before .before .before .args in
     let peak = c .before .before .before .before .before .before .before .before .before .before .before .read-peak in
-    rw (sym (peak .ensures)) (begun (code (peak .result)) (a .src .now) (a .dst .now) _ (omega arith) (c .before .before .convert-blocks .ensures))
+    let f = delivered (a .format) (peak .result) in
+    rw (sym (peak .ensures)) (begun f (a .src .now) (a .dst .now) _ (omega arith) (c .before .before .convert-blocks .ensures))
 
 pub convert-span-spec : {M : Type 1} → statement M
 convert-span-spec =

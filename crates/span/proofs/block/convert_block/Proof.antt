@@ -17,7 +17,7 @@ code-pixels-requires c κs =
 returns : tie.Need-returns
 returns c =
     let mapped = c .before .before .before .before .before .before .before .before .before .map-pixels in
-    c .before .before .code-pixels .ensures ∙ block-is-span _ _ _ _ (mapped .ensures)
+    c .before .before .code-pixels .ensures ∙ block-is-span _ _ _ _ _ (mapped .ensures)
 
 pub convert-block-spec : {M : Type 1} → statement M
 convert-block-spec = tie.close (tie.spec (λ c κs. search needs) find-roots-requires code-pixels-requires (λ c. search needs) returns)

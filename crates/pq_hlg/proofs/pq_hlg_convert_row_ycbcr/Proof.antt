@@ -1,0 +1,18 @@
+-- `pq_hlg::pq_hlg_convert_row_ycbcr` meets its contract: the number of the Y'CbCr row call's answer.
+use mathlib.Core.Path.{_∙_, ap}
+use borrow.Author.Needs.{needs}
+use Rattle.rows.specs.Answer.{hostNumber}
+use Rattle.pq_hlg.proofs.TestLaws.{row-number-fits}
+use Rattle.pq_hlg.proofs.pq_hlg_convert_row_ycbcr.Statement.{statement}
+use Rattle.pq_hlg.proofs.pq_hlg_convert_row_ycbcr.Tie as tie
+
+host-number-requires : tie.Need-host-number-requires
+host-number-requires c κs = rw (c .before .before .convert-row-ycbcr .ensures .0) (row-number-fits _ _ _ _ _)
+
+returns : tie.Need-returns
+returns c =
+    let called = c .before .before .before .convert-row-ycbcr .ensures in
+    (c .host-number .ensures ∙ ap hostNumber (called .0), called .1)
+
+pub pq-hlg-convert-row-ycbcr-spec : {M : Type 1} → statement M
+pq-hlg-convert-row-ycbcr-spec = tie.close (tie.spec (λ c κs. search needs) host-number-requires (λ c. search needs) returns)
