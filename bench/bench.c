@@ -1,4 +1,4 @@
-/* Times the row call beside C in double precision and a plain copy.
+/* Times the row calls, RGB and Y'CbCr, beside C in double precision and a plain copy.
  *
  *     bench PEAK PICTURE...
  *
@@ -15,10 +15,10 @@
 #include <stdlib.h>
 #include <string.h>
 
-enum { WAYS = 4 };
+enum { WAYS = 5, LIBM = 2, COPY = 4 };
 
 static const double SECONDS = 24;       /* for all pictures together, about */
-static const char *const NAMES[WAYS] = { "row_call", "libm", "tables", "copy" };
+static const char *const NAMES[WAYS] = { "row_call", "ycbcr_row_call", "libm", "tables", "copy" };
 
 static double peak;
 static struct tables tables;
@@ -29,8 +29,11 @@ static void convert(int way, const uint8_t *row, uint8_t *dst)
         if (pq_hlg_convert_row((uint64_t)peak, row, ROW, dst, ROW, 0, WIDTH))
             stop("the row call refused a row");
     } else if (way == 1) {
+        if (pq_hlg_convert_row_ycbcr((uint64_t)peak, row, ROW, dst, ROW, 0, WIDTH))
+            stop("the Y'CbCr row call refused a row");
+    } else if (way == LIBM) {
         convert_by_libm(peak, row, dst, WIDTH);
-    } else if (way == 2) {
+    } else if (way < COPY) {
         convert_by_tables(&tables, row, dst, WIDTH);
     } else {
         memcpy(dst, row, ROW);
@@ -86,8 +89,8 @@ int main(int count, char **paths)
             median[way] = median_of(times[way]);
         for (int way = 0; way < WAYS; way++)
             printf("%s %.2f ns/pixel, %.4f of libm (rounds %.2f to %.2f)\n", NAMES[way],
-                   median[way], median[way] / median[1], times[way][0], times[way][ROUNDS - 1]);
-        for (int way = 1; way < 3; way++) {
+                   median[way], median[way] / median[LIBM], times[way][0], times[way][ROUNDS - 1]);
+        for (int way = LIBM; way < COPY; way++) {
             compare(dst[0], dst[way], rows, &share, &largest);
             printf("codes of %s other than the row call's: %.3f %%, by at most %d\n", NAMES[way], share, largest);
         }

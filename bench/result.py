@@ -3,7 +3,7 @@
 import re
 from typing import NamedTuple
 
-WAYS = ("row_call", "libm", "tables", "copy")
+WAYS = ("row_call", "ycbcr_row_call", "libm", "tables", "copy")
 PICTURES = ("gradients", "blocks", "film", "random")
 PEAKS = (1_000, 4_000, 10_000)
 PIXELS = (0, 1, 16, 64, 256)

@@ -25,6 +25,9 @@ def main(path):
     table("times libm", ["peak", "", *PICTURES],
           [[f"{peak:,}", f"`{way}`", *(three_digits(result.times[peak, picture][way][1]) for picture in PICTURES)]
            for peak in PEAKS for way in ("row_call", "tables")])
+    table("Y'CbCr, times RGB", ["peak", *PICTURES],
+          [[f"{peak:,}", *(three_digits(result.times[peak, picture]["ycbcr_row_call"][0] / result.times[peak, picture]["row_call"][0])
+                           for picture in PICTURES)] for peak in PEAKS])
     table(f"ns of one call (and times libm); filling the tables of C took {result.filling:,} ns",
           ["pixels", "`row_call`", "`libm`", "`tables`"],
           [[str(pixels), *(f"{ns:,} ({three_digits(ns / result.calls[pixels][1])})" for ns in result.calls[pixels])]
