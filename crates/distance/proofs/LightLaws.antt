@@ -3,7 +3,6 @@ use mathlib.Core.Path.{_≡_, refl}
 use mathlib.Core.Logic.{inl, inr}
 use Prim.Native.Nat.{ℕ, _-_, _*_, _≤_, _<_}
 use native.Mathlib.Nat.{zero-lt-suc}
-use native.Mathlib.Numerals.{add-one}
 use native.Mathlib.Decide.{decLe}
 use native.Mathlib.Omega.{arith}
 use lib.Dec.{lit≤}
@@ -13,7 +12,7 @@ use Rattle.laws.proofs.FractionLaws.{≼-trans, ≼-zero}
 use Rattle.pq.specs.Pq.{indexSignal}
 use Rattle.pq.specs.LightTable.{lightEntry}
 use Rattle.pq.proofs.PqLaws.{at-least-of-above, at-most-signal, at-least-signal, at-most-light, at-least-light}
-use Rattle.pq.proofs.EntryLaws.{entry-at-most, next-above, entry-first}
+use Rattle.pq.proofs.EntryLaws.{entry-at-most, entry-above, entry-first}
 use Rattle.position.specs.Position.{codeRead, codeIndex, codeLight}
 use Rattle.exact.specs.ExactValue.{signal, Value, Light}
 use Rattle.exact.proofs.FinerLaws.{same-value}
@@ -31,8 +30,7 @@ light-low k l p h g c = inr (at-most-light (at-most-signal (entry-at-most k p h)
 -- and what is above it an upper fraction of the light of its signal and of any smaller one
 pub light-high : {x : Fraction} (k : ℕ) (l : Fraction) → k ≤ 3504 → x ≼ indexSignal k → around entries high (lightEntry k) ≼ l → Light high x l
 unfolding Light Value
-light-high k l h g c =
-    inr (at-least-light (at-least-signal (at-least-of-above (next-above k h)) g) (≼-trans (record { cross = omega (arith, add-one (lightEntry k)) }) c))
+light-high k l h g c = inr (at-least-light (at-least-signal (at-least-of-above (entry-above k h)) g) (≼-trans (record { cross = omega arith }) c))
 
 -- the light of a signal is that of every fraction equal to it
 pub same-light : (s : Side) (x y l : Fraction) → x .num * y .den ≡ y .num * x .den → Light s x l → Light s y l

@@ -6,10 +6,9 @@ use native.Mathlib.Nat.{le-refl, le-trans, le-of-eq, le-antisymm, not-suc-le-zer
 use native.Mathlib.Numerals.{one-add}
 use native.Mathlib.Omega.{arith}
 use lib.ListN.{length, getD, drop}
-use Rattle.laws.specs.Fraction.{whole}
 use Rattle.laws.proofs.ComputedTests.{at-hinted, rises}
 use Rattle.quantity.specs.Units.{units, tenThousand}
-use Rattle.pq.specs.Pq.{ValueAtMost, ValueAbove, indexSignal, entryIn, IsEntry}
+use Rattle.pq.specs.Pq.{ValueAtMost, ValueAbove, indexSignal, entryIn, lowerEnd, upperEnd, IsEntry}
 use Rattle.pq.specs.LightTable.{lightTable, lightEntry}
 use Rattle.pq.proofs.PqTests.{entryTest, entryTest→}
 use Rattle.pq.proofs.TableHints.{hints}
@@ -39,8 +38,8 @@ rule zero l = first-entry
 rule (suc k) l =
     let r = at-hinted entryTest (drop 1 lightTable) hints 1 entries-pass k (omega (arith, later-length)) in
     let p = getD (drop 1 lightTable) k 0 in
-    subst (λ (n : ℕ). ValueAtMost (whole n) (indexSignal (suc k)) × ValueAbove (whole (suc n)) (indexSignal (suc k))) (later k)
-    (subst (λ (n : ℕ). ValueAtMost (whole p) (indexSignal n) × ValueAbove (whole (suc p)) (indexSignal n)) (one-add k)
+    subst (λ (n : ℕ). ValueAtMost (lowerEnd n) (indexSignal (suc k)) × ValueAbove (upperEnd n) (indexSignal (suc k))) (later k)
+    (subst (λ (n : ℕ). ValueAtMost (lowerEnd p) (indexSignal n) × ValueAbove (upperEnd p) (indexSignal n)) (one-add k)
     (entryTest→ (1 + k) p (r .0) (r .1)))
 
 pub entry-rule : (k : ℕ) → IsEntry (min k 3504) (lightEntry k)
@@ -63,14 +62,14 @@ pub rule-unique : (k p q : ℕ) → IsEntry k p → IsEntry k q → p ≡ q
 rule-unique k p q x y = le-antisymm (rule-grows k k p q (le-refl k) x y) (rule-grows k k q p (le-refl k) y x)
 
 -- at index 0 only the second half of the rule can be had: V (0) is above 0
-pub rule-at-most : (k p : ℕ) → 0 < k → IsEntry k p → ValueAtMost (whole p) (indexSignal k)
+pub rule-at-most : (k p : ℕ) → 0 < k → IsEntry k p → ValueAtMost (lowerEnd p) (indexSignal k)
 unfolding IsEntry
 rule-at-most zero p h x = absurd (not-suc-le-zero h)
 rule-at-most (suc k) p h x = x .0
 
-pub rule-above : (k p : ℕ) → IsEntry k p → ValueAbove (whole (suc p)) (indexSignal k)
+pub rule-above : (k p : ℕ) → IsEntry k p → ValueAbove (upperEnd p) (indexSignal k)
 unfolding IsEntry
-rule-above zero p x = above-zero (whole (suc p)) 3504 (zero-lt-suc 3503)
+rule-above zero p x = above-zero (upperEnd p) 3504 (zero-lt-suc 3503)
 rule-above (suc k) p x = x .1
 
 -- ---- the entries
@@ -99,8 +98,8 @@ entry-le k =
     subst (λ n. lightEntry k ≤ n) entry-last
     (subst (λ n. n ≤ lightEntry 3504) (sym (entry-past k)) (entries-grow (min k 3504) 3504 (omega arith)))
 
-pub entry-at-most : (k : ℕ) → 0 < k → k ≤ 3504 → ValueAtMost (whole (lightEntry k)) (indexSignal k)
+pub entry-at-most : (k : ℕ) → 0 < k → k ≤ 3504 → ValueAtMost (lowerEnd (lightEntry k)) (indexSignal k)
 entry-at-most k h l = rule-at-most k (lightEntry k) h (subst (λ n. IsEntry n (lightEntry k)) (omega arith) (entry-rule k))
 
-pub next-above : (k : ℕ) → k ≤ 3504 → ValueAbove (whole (suc (lightEntry k))) (indexSignal k)
-next-above k l = rule-above k (lightEntry k) (subst (λ n. IsEntry n (lightEntry k)) (omega arith) (entry-rule k))
+pub entry-above : (k : ℕ) → k ≤ 3504 → ValueAbove (upperEnd (lightEntry k)) (indexSignal k)
+entry-above k l = rule-above k (lightEntry k) (subst (λ n. IsEntry n (lightEntry k)) (omega arith) (entry-rule k))

@@ -2,19 +2,19 @@
 use mathlib.Core.Path.{_≡_, sym, subst}
 use mathlib.Core.Bool.{Bool, true, false, _&&_}
 use mathlib.Core.List.{List, [], _∷_}
-use Prim.Native.Nat.{ℕ, suc, _+_, _*_, _^_, _≤_, _<_}
+use Prim.Native.Nat.{ℕ, _+_, _*_, _^_, _≤_, _<_}
 use native.Mathlib.Nat.{mul-pos, mul-assoc, mul-right-comm, one-le-pow}
 use native.Mathlib.Omega.{arith}
 use lib.Pow.{pow-pos, pow-add}
 use lib.Dec.{T}
 use lib.Ieee.Fits.{and-l, and-r}
-use Rattle.laws.specs.Fraction.{Fraction, over, whole}
+use Rattle.laws.specs.Fraction.{Fraction, over}
 use Rattle.laws.specs.Side.{Side, low, high, other, At}
 use Rattle.laws.proofs.PowerLaws.{of-power}
 use Rattle.laws.proofs.FractionLaws.{cross-trans, cross-lt-le}
 use Rattle.laws.proofs.SideLaws.{at-refl, at-trans, at-mul, at-other, at-cross-trans}
 use Rattle.quantity.specs.Units.{units, tenThousand}
-use Rattle.pq.specs.Pq.{ratioNum, ratioDen, ValueAtMost, ValueAbove, indexSignal}
+use Rattle.pq.specs.Pq.{ratioNum, ratioDen, ValueAtMost, ValueAbove, indexSignal, lowerEnd, upperEnd}
 use Rattle.pq.proofs.PowerBounds.{size, powerOf, power-bounds, powerOfQuotient, quotient-bounds, leScaled, leScaled→, ltScaled, ltScaled→}
 
 -- the binary digits, after the first, of the exponents 1305, 8192 and 2523
@@ -116,10 +116,11 @@ pub data Hint : Type 0 where
   hint : ℕ → ℕ → ℕ → Hint
 
 abbrev pub entryTest : ℕ → ℕ → Hint → Bool
-entryTest k p (hint a b j) = atMostTest p 1 k 3504 a b j && aboveTest (suc p) 1 k 3504 (a + 1024) b j
+entryTest k p (hint a b j) =
+    atMostTest (lowerEnd p .num) (lowerEnd p .den) k 3504 a b j && aboveTest (upperEnd p .num) (upperEnd p .den) k 3504 (a + 1024) b j
 
-pub entryTest→ : (k p : ℕ) (h : Hint) → T (entryTest k p h) → ValueAtMost (whole p) (indexSignal k) × ValueAbove (whole (suc p)) (indexSignal k)
+pub entryTest→ : (k p : ℕ) (h : Hint) → T (entryTest k p h) → ValueAtMost (lowerEnd p) (indexSignal k) × ValueAbove (upperEnd p) (indexSignal k)
 entryTest→ k p (hint a b j) t =
-    let c = atMostTest p 1 k 3504 a b j in
-    let d = aboveTest (suc p) 1 k 3504 (a + 1024) b j in
-    (atMostTest→ (whole p) (indexSignal k) a b j (and-l c d t), aboveTest→ (whole (suc p)) (indexSignal k) (a + 1024) b j (and-r c d t))
+    let c = atMostTest (lowerEnd p .num) (lowerEnd p .den) k 3504 a b j in
+    let d = aboveTest (upperEnd p .num) (upperEnd p .den) k 3504 (a + 1024) b j in
+    (atMostTest→ (lowerEnd p) (indexSignal k) a b j (and-l c d t), aboveTest→ (upperEnd p) (indexSignal k) (a + 1024) b j (and-r c d t))

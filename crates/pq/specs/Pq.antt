@@ -47,7 +47,14 @@ positionSignal q = over q 897024 (zero-lt-suc 897023)
 abbrev pub entryIn : List ℕ → ℕ → ℕ
 entryIn t k = getD t (min k 3504) 0
 
--- p is the right entry at index k: the light of signal k/3504 in whole units, rounded down
+-- the lights that are p in whole units, rounded down: from the first of these two on, below the second
+abbrev pub lowerEnd : ℕ → Fraction
+lowerEnd p = whole p
+
+abbrev pub upperEnd : ℕ → Fraction
+upperEnd p = whole (p + 1)
+
+-- p is the right entry at index k: the light of signal k/3504 in whole units
 unfoldable pub IsEntry : ℕ → ℕ → Type 0
 IsEntry zero p = p ≡ 0
-IsEntry (suc k) p = ValueAtMost (whole p) (indexSignal (suc k)) × ValueAbove (whole (suc p)) (indexSignal (suc k))
+IsEntry (suc k) p = ValueAtMost (lowerEnd p) (indexSignal (suc k)) × ValueAbove (upperEnd p) (indexSignal (suc k))
