@@ -63,8 +63,11 @@ all-dark peak c h =
     record { to-red = d red; to-green = d green; to-blue = d blue }
 
 -- ---- past a peak above 1,000 cd/m2 the bent light is the light at the position of 1,000
-at-end : (peak : ℕ) → 1000 < peak → bentLight peak (lightAt 897024) 897024 ≡ 16777066835
-unfolding lastPosition lightAt lightEntry lightTable
+abbrev endLight : ℕ
+endLight = lightAt 674406
+
+at-end : (peak : ℕ) → 1000 < peak → bentLight peak (lightAt 897024) 897024 ≡ endLight
+unfolding lastPosition
 at-end peak h =
     bent-at peak h 897024
     ∙ ap lightAt (curve-end (positionOf thousand) (positionOf (peak * units)) (peak-above peak h) (peak-near peak h) 897024
@@ -82,8 +85,8 @@ bright peak x m l n h pos e i = rw (kept red, kept green, kept blue, kept i)
         let top : brightest x ≡ l = omega (arith, h red, h green, h blue) in
         mapped-by peak x m i (h i) top e ∙ mul-div-cancel-left n pos
 
-at-940 : hlgCode (luminance 16777066835 16777066835 16777066835) 16777066835 ≡ 940
-unfolding hlgCode reaches largest step stepTable thousand units
+at-940 : hlgCode (luminance endLight endLight endLight) endLight ≡ 940
+unfolding lightAt lightEntry lightTable hlgCode reaches largest step stepTable thousand units
 at-940 = refl
 
 shown : (peak c : ℕ) → 1000 < peak → codeLight c ≡ 167772160000 → brightestPosition (pixel c c c) ≡ 897024 → Converts peak (pixel c c c) 940 940 940
@@ -96,11 +99,11 @@ shown peak c above h e = record { to-red = to red; to-green = to green; to-blue 
     m : ℕ
     m = brightestPosition (pixel c c c)
 
-    bends : bentOf peak x m ≡ 16777066835
+    bends : bentOf peak x m ≡ endLight
     bends = bent-of-light peak x m (brightest-lit (pixel c c c)) ∙ ap (λ q. bentLight peak (lightAt q) q) e ∙ at-end peak above
 
     to : (i : Component) → codeOf peak x m i ≡ 940
-    to i = bright peak x m 167772160000 16777066835 (elim [ red ↦ h | green ↦ h | blue ↦ h ]) (lit< tt) bends i ∙ at-940
+    to i = bright peak x m 167772160000 endLight (elim [ red ↦ h | green ↦ h | blue ↦ h ]) (lit< tt) bends i ∙ at-940
 
 pub corner-pixels : CornerPixels
 unfolding computed
