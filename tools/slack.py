@@ -18,7 +18,6 @@ getcontext().prec = 60
 UNITS, CELL = 2**24, 256
 C, K = 2**109, 48828125                  # the HLG comparison without its common factor: hlg/proofs/CancelledLaws
 BLUE, WEIGHTS = 593, 10000               # the least weight of the luminance, and the sum of the three
-PARTS, BELOW, ABOVE = 1, 0, 1            # how an entry encloses its light: `entries` of LightLaws, rounded down
 A, B, C_HLG = Decimal("0.17883277"), Decimal("0.28466892"), Decimal("0.55991073")
 
 
@@ -30,6 +29,12 @@ def numbers():
     return found
 
 
+def rounding():
+    """How an entry encloses its light: parts of a unit, how many below it and how many above."""
+    entries = re.search(r"^entries = record \{(.+)\}$", (PROOFS / "LightLaws.antt").read_text(encoding="utf-8"), re.M).group(1)
+    return [int(re.search(rf"\b{name} = (\d+);", entries).group(1)) for name in ("parts", "below", "above")]
+
+
 def table(path):
     """The entries of a stored table."""
     text = (ROOT / path).read_text(encoding="utf-8").split("List ℕ\n")[1]
@@ -37,6 +42,7 @@ def table(path):
 
 
 N = numbers()
+PARTS, BELOW, ABOVE = rounding()
 LIGHTS = table("crates/pq/specs/LightTable.antt")
 STEPS = table("crates/hlg_steps/specs/StepTable.antt")
 
