@@ -177,8 +177,9 @@ def rows():
     yield "luminanceAbove", 3 * WEIGHTS, most(lambda h: add_low(luminanceAbove=h), 0), "`sum-up`; room below"
     yield "slopeAbove", least(lambda v: slope_above(slopeAbove=v), 10**6), most(lambda v: add_high(slopeAbove=v), 0), "least luminance; room above"
     yield "slopeBelow", least(lambda v: slope_below(slopeBelow=v), 10**6), most(lambda v: add_low(slopeBelow=v), 0), "least luminance; room below"
-    yield "roomAbove", least(lambda u: add_high(roomAbove=u), 10**6), min(nine_up, most(lambda u: between_steps(p, q, roomAbove=u), 0)), "units off; 9/16, ratio"
-    yield "roomBelow", least(lambda l: add_low(roomBelow=l), 10**6), min(nine_down, most(lambda l: between_steps(p, q, roomBelow=l), 0)), "units off; 7/16, ratio"
+    up, down = most(lambda u: between_steps(p, q, roomAbove=u), 0), most(lambda l: between_steps(p, q, roomBelow=l), 0)
+    yield "roomAbove", least(lambda u: add_high(roomAbove=u), 10**6), min(nine_up, up), "units off; 9/16, ratio"
+    yield "roomBelow", least(lambda l: add_low(roomBelow=l), 10**6), min(nine_down, down), "units off; 7/16, ratio"
     yield "ratioUnder", least(lambda n: n > 0 and between_steps(n, n + 1), 10**6), most(lambda n: slow(n, n + 1), 1), "steps; cells of bent light"
     yield "ratioOver", p + 1, p + 1, "one more"
     yield "positionsOff", off, most(lambda n: slow(p, q, n), 0, 1000), "codes under every peak; cells of bent light"
