@@ -1,9 +1,10 @@
-"""Titles, rows, cards and codes that are stored as vectors; titles under telling names."""
+"""Titles, rows, cards, codes, lights and positions that are stored as vectors; titles under telling names."""
 
 from heapq import nlargest, nsmallest
 from itertools import product
 from random import Random
 
+from .light import END, LAST, N, STEPS, guess
 from .samples import draw_pixel
 
 DAMAGE_PEAK = b"\x01\x03\xe8"                   # MaxCLL 1,000
@@ -310,6 +311,23 @@ def ycbcr_codes():
     for _ in range(2_000):
         yield tuple(random.choices(range(lowest, highest + 1), k=3))
     yield from refused_codes()
+
+
+def light_questions():
+    """Questions to the calls on lights and positions: the call and its number."""
+    random = Random(897_024)
+    large = (2**16, 2**32, 2**32 + 65, 2**63, 2**64 - 1)
+    for k in (*range(LAST + 2), *large):
+        yield "entry", k
+    for D in (*range(1_025), *large):
+        yield "code", D
+    cells = [STEPS * k + beside for k in range(0, LAST + 1, 73) for beside in (-1, 0, 1, 128)][1:]
+    for q in (*range(300), *cells, *random.sample(range(END), 2_000), *range(END - 300, END + 2), *large):
+        yield "light", q
+    # the darkest lights, every whole peak, lights about entries
+    about = [int(guess(k)[1]) + beside for k in range(1, LAST, 8) for beside in (-1, 0, 1, 2)]
+    for light in (*range(100), *(L * N for L in range(1, 10_001)), *about, 10_000 * N - 1, 10_000 * N + 1, *large):
+        yield "position", light
 
 
 def records():

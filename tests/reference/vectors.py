@@ -13,8 +13,9 @@ from io import BytesIO
 from pathlib import Path
 from random import Random
 
-from .cases import cards, measured_titles, records, row_calls, titles, ycbcr_codes
+from .cases import cards, light_questions, measured_titles, records, row_calls, titles, ycbcr_codes
 from .content_light import Record, measure_row, measured_peak
+from .light import light_at, light_entry, light_of_code, position_of
 from .measure import measure_title
 from .metadata import after_metadata, peak_of_metadata
 from .pixel import convert_pixel
@@ -29,6 +30,7 @@ FOLDER = "tests/vectors"
 SEED = 2_100
 PEAKS, DRAWN = 240, 76
 FILL = 0xA5                    # what a destination holds before the row call
+LIGHT_CALLS = {"entry": light_entry, "code": light_of_code, "light": light_at, "position": position_of}
 LARGE = (2**16 + 64, 2**32 + 500, 2**63 + 100, 2**64 - 1, 2**64 - 64)
 
 
@@ -99,6 +101,16 @@ def codes_line(codes, given):
 def codes_question(codes):
     """A byte of 1, then a peak that is not read, red, green and blue."""
     return b"\1" + words(0, *codes)
+
+
+def light_line(call, number, given):
+    """`entry`, `code`, `light` or `position`, a number, then the answer."""
+    return f"{call} {number} {given}"
+
+
+def light_question(call, number):
+    """The call in one byte, from 0 in the order of LIGHT_CALLS, then the number."""
+    return bytes([list(LIGHT_CALLS).index(call)]) + words(number)
 
 
 def digits(data):
@@ -181,8 +193,9 @@ def lines(each):
     return "".join(line + "\n" for line in dict.fromkeys(each)).encode()
 
 
-def vector_files(pixels, measured_rows, answered_cards, answered_codes):
+def vector_files(lights, pixels, measured_rows, answered_cards, answered_codes):
     """Every file of tests/vectors: its path and its bytes."""
+    yield f"{FOLDER}/lights.txt", lines(light_line(*case, given) for case, given in lights.items())
     yield f"{FOLDER}/pixels.txt", lines(pixel_line(*case, given) for case, given in pixels.items())
     yield f"{FOLDER}/ycbcr.txt", lines(codes_line(*case, given) for case, given in answered_codes.items())
     yield f"{FOLDER}/records.txt", lines(record_line(*case, given) for case, given in measured_rows.items())
@@ -198,7 +211,7 @@ def vector_files(pixels, measured_rows, answered_cards, answered_codes):
         yield f"{FOLDER}/measure/{name}.out", measured(data)
 
 
-def programs(pixels, measured_rows, answered_cards, answered_codes):
+def programs(lights, pixels, measured_rows, answered_cards, answered_codes):
     """What each program is run on: its crate, its input and the output that it owes."""
     sample = dict(titles())["sample"]
     yield "convert", sample, converted(sample)
@@ -209,7 +222,8 @@ def programs(pixels, measured_rows, answered_cards, answered_codes):
     # two rows and a brighter third
     brighter = dict(measured_titles())["three_rows_brightest_last"]
     yield "measure_limit", brighter, measured(brighter, 2)
-    for crate, *asked in (("pixel_vectors", (pixel_question, pixels), (codes_question, answered_codes)),
+    for crate, *asked in (("light_vectors", (light_question, lights)),
+                          ("pixel_vectors", (pixel_question, pixels), (codes_question, answered_codes)),
                           ("record_vectors", (record_question, measured_rows)), ("card_vectors", (card_question, answered_cards))):
         yield (crate, b"".join(question(*case) for question, cases in asked for case in cases),
                "".join(given + "\n" for _, cases in asked for given in cases.values()).encode())
@@ -227,12 +241,14 @@ def program_files(*cases):
 
 def files():
     """Every stored file: its path in the repository and its bytes."""
+    lights = {case: str(LIGHT_CALLS[case[0]](case[1])) for case in light_questions()}
     pixels = {case: answer(convert_pixel, *case) for case in pixel_cases()}
     measured_rows = {case: record_answer(*case) for case in records()}
     answered_cards = {(data,): card_answer(data) for data in cards()}
     answered_codes = {(codes,): answer(convert_codes, codes) for codes in ycbcr_codes()}
-    yield from vector_files(pixels, measured_rows, answered_cards, answered_codes)
-    yield from program_files(pixels, measured_rows, answered_cards, answered_codes)
+    answers = lights, pixels, measured_rows, answered_cards, answered_codes
+    yield from vector_files(*answers)
+    yield from program_files(*answers)
 
 
 def differences(stored):
