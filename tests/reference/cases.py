@@ -14,6 +14,19 @@ CORNERS = (BLACK, RED, (64, 723, 64), (64, 64, 723), (723, 723, 64), (64, 723, 7
 CORNER_CODES = ((64, 64, 64), (976, 64, 64), (64, 950, 64), (64, 64, 1_015), (942, 942, 64),
                 (64, 948, 948), (970, 64, 970), (940, 940, 940))    # what these become, document 002's RGB columns
 
+# Pixels of which a code hangs on one unit of a light, by peak; under the peaks above 1,000 cd/m2 all are bent. Found by trying all codes from 64 to 940.
+UNIT_PIXELS = {
+    1_000: ((82, 82, 595), (86, 145, 86), (185, 185, 844), (351, 351, 138), (130, 123, 204), (349, 218, 375), (363, 238, 514),
+            (380, 434, 631), (204, 107, 190), (310, 315, 81), (398, 149, 297), (342, 456, 307), (94, 531, 354), (171, 527, 584),
+            (349, 74, 643), (73, 693, 594), (740, 768, 66), (289, 772, 66), (792, 90, 269), (413, 881, 77)),
+    1_500: ((710, 493, 87), (733, 245, 493), (66, 771, 747), (66, 772, 426), (66, 772, 475), (306, 772, 66), (356, 772, 66),
+            (783, 233, 120), (465, 175, 800), (345, 696, 830), (94, 880, 547), (899, 554, 771)),
+    4_000: ((321, 103, 672), (105, 350, 718), (722, 763, 66), (71, 767, 91), (71, 767, 164), (71, 767, 238), (93, 767, 71),
+            (166, 767, 71), (66, 727, 774), (798, 222, 77), (849, 74, 583), (86, 866, 884)),
+    10_000: ((115, 634, 559), (417, 661, 73), (702, 180, 193), (94, 741, 705), (762, 276, 505), (775, 66, 574), (66, 554, 792),
+             (298, 66, 804), (194, 107, 847), (881, 76, 271), (881, 76, 340), (884, 429, 159)),
+}
+
 
 def word(value):
     """Two bytes, high byte first."""
@@ -114,6 +127,8 @@ def accepted_titles():
     above = [(D, 64 + 3 * (D - 700) // 2, 500) for D in range(740, 1_020, 8)]
     yield "rows_above_peak_1500", title(maxcll(1_500), 5, row(*above))
     yield "rows_above_peak_100", title(maxcll(100), 5, row(*above))
+    for peak, pixels in UNIT_PIXELS.items():
+        yield f"a_unit_of_light_peak_{peak}", title(maxcll(peak), 4, row(*pixels))
 
 
 def named_peaks():
@@ -246,6 +261,8 @@ def row_calls():
     for first, end in ((0, 0), (0, 1), (1, 1), (1, 0), (big, big)):
         yield 1_000, b"", 0, first, end
     yield 1_000, b"", 6, 0, 0
+    for peak, pixels in UNIT_PIXELS.items():
+        yield peak, row(*pixels), 6 * len(pixels), 0, len(pixels)
 
 
 def luma_beside_halves(random):

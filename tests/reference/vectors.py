@@ -13,7 +13,7 @@ from io import BytesIO
 from pathlib import Path
 from random import Random
 
-from .cases import cards, light_questions, measured_titles, records, row_calls, titles, ycbcr_codes
+from .cases import UNIT_PIXELS, cards, light_questions, measured_titles, records, row_calls, titles, ycbcr_codes
 from .content_light import Record, measure_row, measured_peak
 from .light import light_at, light_entry, light_of_code, position_of
 from .measure import measure_title
@@ -67,6 +67,9 @@ def pixel_cases():
             yield L, pixel
         for _ in range(DRAWN):
             yield L, draw_pixel(random, L)
+    for L, pixels in UNIT_PIXELS.items():
+        for pixel in pixels:
+            yield L, pixel
     yield from refused_pixels()
 
 
