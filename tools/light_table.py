@@ -1,5 +1,5 @@
 #!/usr/bin/env python3
-"""The light table: entry k, from 0 to 3,504, is the light of the PQ signal k/3504 in units of 1/16,777,216 cd/m2, rounded down.
+"""The light table: entry k, from 0 to 3,504, is the light of the PQ signal k/3504 to the nearest unit, 1/16,777,216 cd/m2.
 
     python3 tools/light_table.py source     print crates/pq/src/table.rt
     python3 tools/light_table.py specs      print crates/pq/specs/LightTable.antt
@@ -8,7 +8,8 @@
 
 Light l has the PQ value V with V^32 = r^2523, r = (3424 + 77216w)/(4096 + 76544w), w^8192 = (l/F)^1305, F being 10,000 cd/m2.
 Decimals only suggest an entry. Whole numbers decide it: bounds of V^32, every step rounded down or every step rounded up, compare V with
-k/3504, and an entry is taken when V(p) <= k/3504 < V(p + 1); a comparison that the bounds leave open is an error.
+k/3504, and an entry is taken when V(p - 1/2) <= k/3504 < V(p + 1/2); a comparison that the bounds leave open is an error.
+So halves go up, though no entry shows it: none is an exact half.
 Each hint is put to the test that the proof computes, in a second copy written here.
 """
 import math
@@ -45,9 +46,9 @@ def root(x, up):
     return r + 1 if up and r * r < x << BITS else r
 
 
-def light_w(light, up):
-    """(light/F)^(1305/8192): thirteen square roots, then the power."""
-    w = divided(light << BITS, TEN_THOUSAND, up)
+def light_w(halves, up):
+    """(light/F)^(1305/8192), the light in half units: thirteen square roots, then the power."""
+    w = divided(halves << BITS, 2 * TEN_THOUSAND, up)
     for _ in range(13):
         w = root(w, up)
     return power(w, 1305, up)
@@ -58,14 +59,14 @@ def value_power(w, up):
     return power(divided((3424 * ONE + 77216 * w) << BITS, 4096 * ONE + 76544 * w, up), 2523, up)
 
 
-def at_most(light, k):
-    """Is V(light) at most k/3504?"""
+def at_most(halves, k):
+    """Is V of so many half units at most k/3504?"""
     signal = k**32 << BITS
-    if value_power(light_w(light, True), True) * LAST**32 <= signal:
+    if value_power(light_w(halves, True), True) * LAST**32 <= signal:
         return True
-    if value_power(light_w(light, False), False) * LAST**32 > signal:
+    if value_power(light_w(halves, False), False) * LAST**32 > signal:
         return False
-    raise ArithmeticError(f"index {k}, light {light}: {BITS} bits do not decide")
+    raise ArithmeticError(f"index {k}, light {halves}/2: {BITS} bits do not decide")
 
 
 # ---- suggestions, to 60 decimals
@@ -82,9 +83,9 @@ def light_table():
     table = [0]
     for k in range(1, LAST + 1):
         p = int(TEN_THOUSAND * signal_w(k) ** (Decimal(8192) / 1305))
-        while not at_most(p, k):
+        while not at_most(2 * p - 1, k):
             p -= 1
-        while at_most(p + 1, k):
+        while at_most(2 * p + 1, k):
             p += 1
         table.append(p)
     assert table[LAST] == TEN_THOUSAND
@@ -113,9 +114,9 @@ def scaled(x, p, y, q):
     return x << max(p - q, 0), y << max(q - p, 0)
 
 
-def short_test(light, k, a, b, j, up):
+def short_test(halves, k, a, b, j, up):
     """a/2^b is at least the w of the light and its V at most k/3504 (up), or at most that w and its V above k/3504."""
-    m, e = short_power(rounded(light << j, TEN_THOUSAND, up), 1305, up)
+    m, e = short_power(rounded(halves << j, 2 * TEN_THOUSAND, up), 1305, up)
     n, f = short_power(a, 8192, not up)
     x, y = scaled(m, e + b * 8192, n, f + j * 1305)
     unit = 1 << b
@@ -135,7 +136,7 @@ def entry_hint(k, p):
         b += 1
     # halfway, but at the end, where w is 1 itself and leaves no room below
     a = int(w * (1 << b)) - (512 if k < LAST else 0)
-    if not (short_test(p, k, a, b, j, True) and short_test(p + 1, k, a + 1024, b, j, False)):
+    if not (short_test(2 * p - 1, k, a, b, j, True) and short_test(2 * p + 1, k, a + 1024, b, j, False)):
         raise ArithmeticError(f"index {k}: the proof's test refuses entry {p}")
     return a, b, j
 
@@ -146,7 +147,7 @@ def entry_hint(k, p):
 def source(table):
     return (
         "// The light table P (scope, Light: light table). Made by `python3 tools/light_table.py source`.\n"
-        "// Entry k is the light of the PQ signal k/3504 in units of 1/16,777,216 cd/m2, rounded down; 3,505 entries, rising from 0 to\n"
+        "// Entry k is the light of the PQ signal k/3504 to the nearest 1/16,777,216 cd/m2 (request 05); 3,505 entries, rising from 0 to\n"
         "// 167,772,160,000. A mention of the constant stores them all: only `light_table` mentions it.\n"
         f"pub const LIGHT_TABLE: [u64; {len(table)}] = [\n" + "".join(f"    {p},\n" for p in table) + "];\n"
     )
@@ -158,7 +159,7 @@ def rows(items, width):
 
 def specs(table):
     return (
-        "-- The light table P (scope, Light: light table): entry k is the light of the PQ signal k/3504, in units of 1/16,777,216 cd/m2, rounded down.\n"
+        "-- The light table P (scope, Light: light table; request 05): entry k is the light of the PQ signal k/3504 to the nearest 1/16,777,216 cd/m2.\n"
         "-- 3,505 entries from 0 to 167,772,160,000, rising. Made by `python3 tools/light_table.py specs`; `Pq.IsEntry` is the rule.\n"
         "use mathlib.Core.List.{List, [], _∷_}\n"
         "use Prim.Native.Nat.{ℕ, min}\n"

@@ -1,4 +1,4 @@
-"""Every number that document 01 and requests 01 to 04 name, and the laws between their parts.
+"""Every number that document 01 and requests 01 to 05 name, and the laws between their parts.
 
     python3 -m tests.reference.check
 
@@ -7,6 +7,7 @@ Each function below is one law; it yields statements with whether they hold.
 
 import subprocess
 import sys
+from contextlib import contextmanager
 from decimal import ROUND_HALF_UP, Decimal, localcontext
 from fractions import Fraction
 from functools import lru_cache
@@ -17,7 +18,7 @@ from pathlib import Path
 from random import Random
 
 from . import content_light, curve, exact, hlg, light, measure, metadata, program, row
-from .cases import CORNER_CODES, CORNERS, row as row_bytes, row_calls, title, word, ycbcr_codes
+from .cases import CORNER_CODES, CORNERS, UNIT_PIXELS, row as row_bytes, row_calls, title, word, ycbcr_codes
 from .light import A, BRIGHTEST, END, LAST, N, P
 from .pixel import convert_pixel, hlg_codes, mapped_components
 from .refusal import Refused
@@ -49,10 +50,10 @@ def grey(D):
 
 # Light
 
-def w_by_roots(p, up):
-    """w of a light by thirteen whole square roots and the power 1305, on the asked side."""
-    one = 2**320
-    x = -(-p * one // BRIGHTEST) if up else p * one // BRIGHTEST
+def w_by_roots(halves, up):
+    """w of a light in half units by thirteen whole square roots and the power 1305, on the asked side."""
+    one, whole = 2**320, 2 * BRIGHTEST
+    x = -(-halves * one // whole) if up else halves * one // whole
     for _ in range(13):
         x = isqrt(x * one - 1) + 1 if up else isqrt(x * one)
     m, shift = power(x, one, 1_305, up)
@@ -60,9 +61,9 @@ def w_by_roots(p, up):
 
 
 def brackets(k, p):
-    """V(p) <= k/3504 < V(p + 1), found from the lights and not from the signal."""
-    return (power_below(light.r_of(w_by_roots(p, True)), 2_523, (k, LAST), 32)
-            and power_below((k, LAST), 32, light.r_of(w_by_roots(p + 1, False)), 2_523))
+    """V(p - 1/2) < k/3504 < V(p + 1/2), found from the lights and not from the signal."""
+    return (power_below(light.r_of(w_by_roots(2 * p - 1, True)), 2_523, (k, LAST), 32)
+            and power_below((k, LAST), 32, light.r_of(w_by_roots(2 * p + 1, False)), 2_523))
 
 
 def brackets_by_whole_powers(k, p):
@@ -71,8 +72,9 @@ def brackets_by_whole_powers(k, p):
         return left[0]**e * right[1]**o < right[0]**o * left[1]**e
     near, one = int(light.guess(k)[0] * 10**20), 10**20
     low, high = (near - 1, one), (near + 2, one)
-    return (less((p, BRIGHTEST), 1_305, low, 8_192) and less(light.r_of(low), 2_523, (k, LAST), 32)
-            and less(high, 8_192, (p + 1, BRIGHTEST), 1_305) and less((k, LAST), 32, light.r_of(high), 2_523))
+    whole = 2 * BRIGHTEST
+    return (less((2 * p - 1, whole), 1_305, low, 8_192) and less(light.r_of(low), 2_523, (k, LAST), 32)
+            and less(high, 8_192, (2 * p + 1, whole), 1_305) and less((k, LAST), 32, light.r_of(high), 2_523))
 
 
 def light_table():
@@ -85,9 +87,49 @@ def light_table():
     yield "every entry brackets its signal, found a second way", all(brackets(k, P[k]) for k in range(1, LAST))
     yield "some entries, by powers that are not cut", all(
         brackets_by_whole_powers(k, P[k]) for k in (1, 2, 4, 100, 1_752, 2_636, 3_000, 3_503))
-    yield "entries are the EOTF in long decimals, rounded down", all(
-        int(exact.pq_eotf(Decimal(k) / LAST) * N) == P[k] for k in range(0, LAST, 73))
+    yield "entries are the EOTF in long decimals, to the nearest, halves up", all(
+        l.to_integral_value(ROUND_HALF_UP) == p for l, p in zip(exact_entries(), P))
     yield "an index past the table reads its end", light.light_entry(2**64 - 1) == P[LAST]
+
+
+@lru_cache(maxsize=None)
+def exact_entries():
+    """The lights of the table's signals before they are rounded, in long decimals."""
+    return [exact.pq_eotf(Decimal(k) / LAST) * N for k in range(LAST + 1)]
+
+
+@contextmanager
+def table_rounded_down():
+    """The light table as document 01 has it without request 05, for a while."""
+    def change(table):
+        light.P = table
+        curve.position_of_peak.cache_clear()
+        curve.bend_code.cache_clear()
+    change(tuple(map(int, exact_entries())))
+    try:
+        yield light.P
+    finally:
+        change(P)
+
+
+def nearest_light():
+    """Request 05 beside document 01: what moves with the table, and what does not."""
+    yield "no light lies within 1/6500 of a unit of a half, so no entry tells halves up from halves down", all(
+        abs(l % 1 - Decimal("0.5")) > Decimal(1) / 6_500 for l in exact_entries())
+
+    def answers():
+        return ([light.position_of(L * N) for L in range(1, 10_001)],
+                [content_light.measure([row_bytes(grey(D))]) for D in range(4, 1_020)],
+                {(L, pixel): hlg_codes(L, pixel) for L, pixels in UNIT_PIXELS.items() for pixel in pixels})
+    peaks, measured_peaks, codes = answers()
+    with table_rounded_down() as lower:
+        lower_peaks, lower_measured_peaks, lower_codes = answers()
+    yield "1,738 entries are a unit more than rounded down, the others are the same", (
+        [p - q for p, q in zip(P, lower)].count(1) == 1_738 and {p - q for p, q in zip(P, lower)} == {0, 1})
+    yield "the position of no whole peak moves", peaks == lower_peaks
+    yield "the measured peak of no code moves", measured_peaks == lower_measured_peaks
+    yield "each stored pixel that hangs on a unit of light has a code or two that move, by one", all(
+        sorted(abs(c - d) for c, d in zip(codes[case], lower_codes[case])) in ([0, 0, 1], [0, 1, 1]) for case in codes)
 
 
 def light_of_codes():
@@ -674,7 +716,7 @@ def traps():
         abs(Fraction(x, y) - Fraction(mapped[0], R)) < Fraction(1, 2**30) for x, y in zip(mapped, (R, G, B)))
 
 
-LAWS = (light_table, light_of_codes, positions, spline_is_hermite, highlight_curve, published_patches, hlg_steps,
+LAWS = (light_table, nearest_light, light_of_codes, positions, spline_is_hermite, highlight_curve, published_patches, hlg_steps,
         hlg_code, shorter_products, published_constants, published_table, corner_pixels, other_examples, cards, zero_fields, rows, program_answers,
         measured_numbers, measured_refusals, measured_lists, measured_records, measure_answers,
         published_ycbcr, rounding_away, ycbcr_of_codes, halves_of_luma, halves_of_chroma, code_refusals, ycbcr_rows, distance, greys, traps)

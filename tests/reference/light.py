@@ -1,11 +1,11 @@
-"""Document 01, "Light": the light table, the light of a code, positions.
+"""Document 01, "Light", with request 05: the light table, the light of a code, positions.
 
 Display light is a whole number of units, N units to 1 cd/m2. Signals are PQ
 signals from 0 to 1; a position counts them in 1/897,024.
 """
 
 from bisect import bisect_right
-from decimal import Context, Decimal
+from decimal import ROUND_HALF_UP, Context, Decimal
 
 from .rounding import Undecided, power_below
 
@@ -37,28 +37,32 @@ def guess(k):
     return w, light
 
 
-def value_below(p, k, w):
-    """Shows V(p) < k/3504 by a fraction w that lies above w(p) while its V lies below k/3504."""
-    return (power_below((p, BRIGHTEST), 1_305, w, 8_192)
+def value_below(halves, k, w):
+    """Shows V(halves/2) < k/3504 by a fraction w that lies above that light's w while its V lies below k/3504."""
+    return (power_below((halves, 2 * BRIGHTEST), 1_305, w, 8_192)
             and power_below(r_of(w), 2_523, (k, LAST), 32))
 
 
-def value_above(p, k, w):
-    """Shows V(p) > k/3504 by a fraction w that lies below w(p) while its V lies above k/3504."""
-    return (power_below(w, 8_192, (p, BRIGHTEST), 1_305)
+def value_above(halves, k, w):
+    """Shows V(halves/2) > k/3504 by a fraction w that lies below that light's w while its V lies above k/3504."""
+    return (power_below(w, 8_192, (halves, 2 * BRIGHTEST), 1_305)
             and power_below((k, LAST), 32, r_of(w), 2_523))
 
 
 def entry(k):
-    """The light table's entry: the whole p with V(p) <= k/3504 < V(p + 1)."""
+    """The light table's entry: the whole p with V(p - 1/2) <= k/3504 < V(p + 1/2), the nearest, halves up.
+
+    That no light is a half exactly is shown on the way: V(p - 1/2) lies below k/3504.
+    """
     if k == 0:
         return 0
     if k == LAST:
         return BRIGHTEST       # w, r and V are 1 there, without rounding
     w, light = guess(k)
-    p, near = int(light), int(GUESS.multiply(w, WITNESS))
-    if not (value_below(p, k, (near - 1, WITNESS))
-            and value_above(p + 1, k, (near + 2, WITNESS))):
+    p = int(light.to_integral_value(ROUND_HALF_UP))
+    near = int(GUESS.multiply(w, WITNESS))
+    if not (value_below(2 * p - 1, k, (near - 1, WITNESS))
+            and value_above(2 * p + 1, k, (near + 2, WITNESS))):
         raise Undecided(f"light table entry {k}")
     return p
 

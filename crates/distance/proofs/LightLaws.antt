@@ -18,9 +18,9 @@ use Rattle.exact.specs.ExactValue.{signal, Value, Light}
 use Rattle.exact.proofs.FinerLaws.{same-value}
 use Rattle.distance.proofs.NearLaws.{Rounding, around}
 
--- rounded down: an entry's light lies from its units to one more
+-- to the nearest: an entry's light lies from half a unit below it to half a unit above
 abbrev pub entries : Rounding
-entries = record { parts = 1; pos = zero-lt-suc 0; below = 0; above = 1; upward = lit≤ tt; narrow = lit≤ tt }
+entries = record { parts = 2; pos = zero-lt-suc 1; below = 1; above = 1; upward = lit≤ tt; narrow = lit≤ tt }
 
 -- what is below an entry is a lower fraction of the light of its signal and of any larger one
 pub light-low : {x : Fraction} (k : ℕ) (l : Fraction) → 0 < k → k ≤ 3504 → indexSignal k ≼ x → l ≼ around entries low (lightEntry k) → Light low x l

@@ -3,10 +3,10 @@
 -- cross-multiplied; r grows with w, so a fraction on one side of w gives a fraction on the same side of V.
 use mathlib.Core.Path.{_≡_}
 use mathlib.Core.List.{List}
-use Prim.Native.Nat.{ℕ, zero, suc, min, _+_, _*_, _^_, _≤_, _<_}
+use Prim.Native.Nat.{ℕ, zero, suc, min, _+_, _-_, _*_, _^_, _≤_, _<_}
 use native.Mathlib.Nat.{zero-lt-suc}
 use lib.ListN.{getD}
-use Rattle.laws.specs.Fraction.{Fraction, over, whole}
+use Rattle.laws.specs.Fraction.{Fraction, over}
 use Rattle.quantity.specs.Units.{tenThousand}
 
 -- SMPTE ST 2084's constants: w is the light to the power m1 = 1305/8192 (2610/16384), r is (c1 + c2 w) / (1 + c3 w) with c1 = 3424/4096,
@@ -47,12 +47,12 @@ positionSignal q = over q 897024 (zero-lt-suc 897023)
 abbrev pub entryIn : List ℕ → ℕ → ℕ
 entryIn t k = getD t (min k 3504) 0
 
--- the lights that are p in whole units, rounded down: from the first of these two on, below the second
+-- the lights whose nearest whole unit is p, halves up (request 05): from p − 1/2 on, below p + 1/2. No light is below 0, so for p = 0 from 0 on
 abbrev pub lowerEnd : ℕ → Fraction
-lowerEnd p = whole p
+lowerEnd p = over (2 * p - 1) 2 (zero-lt-suc 1)
 
 abbrev pub upperEnd : ℕ → Fraction
-upperEnd p = whole (p + 1)
+upperEnd p = over (2 * p + 1) 2 (zero-lt-suc 1)
 
 -- p is the right entry at index k: the light of signal k/3504 in whole units
 unfoldable pub IsEntry : ℕ → ℕ → Type 0

@@ -8,7 +8,7 @@ ghost use Rattle.pq.specs.LightTable.{lightTable, lightEntry};
 use quantity::DisplayLight;
 use table::LIGHT_TABLE;
 
-// P[k]: the light of the PQ signal k/3504 in whole units, rounded down.
+// P[k]: the light of the PQ signal k/3504 to the nearest whole unit.
 pub fn light_entry(k: u64) -> DisplayLight
     ensures { λ r. ⌜ (r .0 ≡ lightEntry k) × IsEntry (min k 3504) (r .0) ⌝ }
 {
