@@ -27,14 +27,14 @@ use Rattle.converted_title.specs.declared.next_row.Piece.{Piece}
 use Rattle.converted_title.specs.NextRow.{convertedText, wholeRowAnswer, wholeRowBytes, afterCall, afterBytes, nextRow, rowsLeft, NextPiece}
 
 -- the text of converted bytes, within a buffer
-pub converted-text : (peak : ℕ) (row : List ℕ) (n room : ℕ)
-    → rowTextWithin (spanBytes (code peak) row 0 n) room ≡ cond (leb (18 * n) room) (lines (λ j. code peak (pixelAt row j)) n) []
+pub converted-text : (source : Source) (row : List ℕ) (n room : ℕ)
+    → rowTextWithin (spanBytes (code source) row 0 n) room ≡ cond (leb (18 * n) room) (lines (λ j. code source (pixelAt row j)) n) []
 unfolding rowTextWithin rowText
-converted-text peak row n room =
-    let bytes = spanBytes (code peak) row 0 n in
-    let l = length-span (code peak) row 0 n in
+converted-text source row n room =
+    let bytes = spanBytes (code source) row 0 n in
+    let l = length-span (code source) row 0 n in
     let pixels : length bytes / 6 ≡ n = omega arith in
-    simp (eq-eqb (length bytes % 6) 0 (omega arith), pixels, lines-same (pixelAt bytes) (λ j. code peak (pixelAt row j)) n (pixel-of-span (code peak) row n))
+    simp (eq-eqb (length bytes % 6) 0 (omega arith), pixels, lines-same (pixelAt bytes) (λ j. code source (pixelAt row j)) n (pixel-of-span (code source) row n))
 
 -- a whole row that is converted fills its destination
 pub whole-destination : (source : Source) (row codes : List ℕ) → rowAnswer source row (length codes) 0 (length row / 6) ≡ Converted
@@ -86,7 +86,7 @@ pub listed : (source : Source) (left : ℕ) (row codes text : List ℕ) {n m : �
     → NextPiece Listed source left row codes text (record { bytes = n; left = m }) codes′ text′
 unfolding convertedText
 listed source left row codes text {n} {m} {codes′} {text′} same k t l =
-    let words = ap (λ (bytes : List ℕ). rowTextWithin bytes (length text)) same ∙ converted-text (source .peak) row (length row / 6) (length text) in
+    let words = ap (λ (bytes : List ℕ). rowTextWithin bytes (length text)) same ∙ converted-text source row (length row / 6) (length text) in
     let count = rw words at k in
     record { answer = rw (count, l); of-codes = same; of-text = rw words at t }
 

@@ -22,14 +22,14 @@ use Rattle.converted_title.specs.declared.next_row.Piece.{Piece}
 
 -- scope, program: a line for each pixel of a row, of its HLG codes
 unfoldable pub convertedText : Source → List ℕ → List ℕ
-convertedText source row = lines (λ j. code (source .peak) (pixelAt row j)) (length row / 6)
+convertedText source row = lines (λ j. code source (pixelAt row j)) (length row / 6)
 
 -- what a call for the whole row answers, and the bytes that it gives
 abbrev pub wholeRowAnswer : Source → List ℕ → ℕ → RowAnswer
 wholeRowAnswer source row bytes = rowAnswer source row bytes 0 (length row / 6)
 
 abbrev pub wholeRowBytes : Source → List ℕ → List ℕ
-wholeRowBytes source row = spanBytes (code (source .peak)) row 0 (length row / 6)
+wholeRowBytes source row = spanBytes (code source) row 0 (length row / 6)
 
 abbrev pub afterCall : RowAnswer → NextRow
 afterCall row-call.Converted = Listed

@@ -9,6 +9,7 @@ use lib.Dec.{lit<}
 use Rattle.laws.specs.Fraction.{Fraction}
 use Rattle.laws.proofs.SideLaws.{at-refl}
 use Rattle.quantity.specs.Units.{units}
+use Rattle.quantity.specs.declared.Source.{Source}
 use Rattle.quantity.specs.Component.{Component, Pixel, brightest}
 use Rattle.pq.specs.Pq.{positionSignal}
 use Rattle.position.specs.Position.{codeRead, codeIndex, codePosition, lightAt, positionOf}
@@ -66,7 +67,10 @@ module _ {G : Given} {x : Pixel} {m : ℕ} (I : Indexed G x m) (peak : ℕ) (mos
           (less-than-two ratioUnder ratioOver roomAbove roomBelow ratios) i
 
 -- ---- codes: the position of each is that of an index
-module _ (peak : ℕ) (p : Pixel) (most : peak ≤ 10000) where
+module _ (source : Source) (p : Pixel) (most : source .peak ≤ 10000) where
+  abbrev peak : ℕ
+  peak = source .peak
+
   abbrev D : ℕ
   D = brightest p
 
@@ -89,33 +93,33 @@ module _ (peak : ℕ) (p : Pixel) (most : peak ≤ 10000) where
   by-index : (Inside : ℕ → Fraction → Type 0) → Inside 64 none
       → (Indexed (ofCodes p) (lights p) (brightestPosition p) → (i : Component)
       → Enclosed (ofCodes p) peak i (Inside (codeOf peak (lights p) (brightestPosition p) i)))
-      → (i : Component) → Enclosed (ofCodes p) peak i (Inside (code peak p i))
+      → (i : Component) → Enclosed (ofCodes p) peak i (Inside (code source p i))
   unfolding code
   by-index Inside zero f i = go (decLe 1 (codeRead D - 64))
     where
-      go : Dec (1 ≤ codeRead D - 64) → Enclosed (ofCodes p) peak i (Inside (code peak p i))
+      go : Dec (1 ≤ codeRead D - 64) → Enclosed (ofCodes p) peak i (Inside (code source p i))
       go (yes h) = f (indexed h) i
       go (no h) =
           let e : codeRead D - 64 ≡ 0 = omega arith in
-          subst (λ c. Enclosed (ofCodes p) peak i (Inside c)) (sym (code-dark peak p (light-of-brightest p ∙ unlit D e) i)) (black e zero)
+          subst (λ c. Enclosed (ofCodes p) peak i (Inside c)) (sym (code-dark source p (light-of-brightest p ∙ unlit D e) i)) (black e zero)
 
-  below : (peak ≤ 1000) ⊎ BelowKnee peak p → (peak ≤ 1000) ⊎ (2 * brightestPosition p + kneeHalves + positionOf (peak * units) ≤ 3 * thousandAt)
+  below : (peak ≤ 1000) ⊎ BelowKnee source p → (peak ≤ 1000) ⊎ (2 * brightestPosition p + kneeHalves + positionOf (peak * units) ≤ 3 * thousandAt)
   unfolding brightestPosition
   below (inl h) = inl h
   below (inr h) = inr (omega (arith, thousand-position))
 
--- the voted property at each peak and pixel, and over all of them
-pub voted : (peak : ℕ) (p : Pixel) → peak ≤ 10000 → Voted peak p
+-- the voted property of each source and pixel, and over all of them
+pub voted : (source : Source) (p : Pixel) → source .peak ≤ 10000 → Voted source p
 unfolding none
-voted peak p most =
+voted source p most =
     record {
-      near = by-index peak p most (LessThan 2) (omega arith) (λ I. near-two I peak most);
-      nearer = λ c. by-index peak p most (AtMost 9 16) (omega arith) (λ I. nearer I peak most (below peak p most c));
-      capped = mapped-at-most peak p;
-      ordered = ordered peak p;
-      greys = λ c d from l to. greys peak c d l;
+      near = by-index source p most (LessThan 2) (omega arith) (λ I. near-two I (source .peak) most);
+      nearer = λ c. by-index source p most (AtMost 9 16) (omega arith) (λ I. nearer I (source .peak) most (below source p most c));
+      capped = mapped-at-most source p;
+      ordered = ordered source p;
+      greys = λ c d from l to. greys source c d l;
     }
 
 pub demand : Demand
 unfolding Demand
-demand peak some most p codes = voted peak p most
+demand source some most p codes = voted source p most

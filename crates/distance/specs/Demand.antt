@@ -4,6 +4,7 @@ use Prim.Native.Nat.{ℕ, _+_, _*_, _≤_, _<_}
 use Rattle.laws.specs.Fraction.{Fraction}
 use Rattle.laws.specs.Side.{Side}
 use Rattle.quantity.specs.Units.{units, thousand}
+use Rattle.quantity.specs.declared.Source.{Source}
 use Rattle.quantity.specs.Component.{Component, Pixel, brightest}
 use Rattle.position.specs.Position.{codePosition, codeLight, positionOf}
 use Rattle.pixel.specs.Conversion.{mapped, code}
@@ -26,22 +27,22 @@ pub record Enclosed (G : Given) (peak : ℕ) (i : Component) (Inside : Fraction 
   pub inside : (s : Side) → Inside (fraction s)
 
 -- the brightest code lies a whole code or more under the knee: 2m + 2,048 ≤ 3t − w. Where the curve cuts m at w, it fails with either m
-abbrev pub BelowKnee : ℕ → Pixel → Type 0
-BelowKnee peak p = 2 * codePosition (brightest p) + 2048 + positionOf (peak * units) ≤ 3 * positionOf thousand
+abbrev pub BelowKnee : Source → Pixel → Type 0
+BelowKnee source p = 2 * codePosition (brightest p) + 2048 + positionOf (source .peak * units) ≤ 3 * positionOf thousand
 
--- demand 3 at one peak and one pixel
-pub record Voted (peak : ℕ) (p : Pixel) : Type 0 where
+-- demand 3 of one source and one pixel
+pub record Voted (source : Source) (p : Pixel) : Type 0 where
   -- each code is less than two codes away from its exact value
-  pub near : (i : Component) → Enclosed (ofCodes p) peak i (LessThan 2 (code peak p i))
+  pub near : (i : Component) → Enclosed (ofCodes p) (source .peak) i (LessThan 2 (code source p i))
   -- and at most 9/16 of a code where the curve does not bend, or not yet
-  pub nearer : (peak ≤ 1000) ⊎ BelowKnee peak p → (i : Component) → Enclosed (ofCodes p) peak i (AtMost 9 16 (code peak p i))
+  pub nearer : (source .peak ≤ 1000) ⊎ BelowKnee source p → (i : Component) → Enclosed (ofCodes p) (source .peak) i (AtMost 9 16 (code source p i))
   -- no mapped component exceeds 1,000 cd/m2
-  pub capped : (i : Component) → mapped peak p i ≤ thousand
+  pub capped : (i : Component) → mapped source p i ≤ thousand
   -- a component light at least as large as another gives a mapped component and a code at least as large
-  pub ordered : (i j : Component) → codeLight (p i) ≤ codeLight (p j) → (mapped peak p i ≤ mapped peak p j) × (code peak p i ≤ code peak p j)
-  -- of two greys under one peak, the larger PQ code gives HLG codes at least as large
-  pub greys : (c d : ℕ) → 4 ≤ c → c ≤ d → d ≤ 1019 → (i j : Component) → code peak (λ k. c) i ≤ code peak (λ k. d) j
+  pub ordered : (i j : Component) → codeLight (p i) ≤ codeLight (p j) → (mapped source p i ≤ mapped source p j) × (code source p i ≤ code source p j)
+  -- of two greys of one source, the larger PQ code gives HLG codes at least as large
+  pub greys : (c d : ℕ) → 4 ≤ c → c ≤ d → d ≤ 1019 → (i j : Component) → code source (λ k. c) i ≤ code source (λ k. d) j
 
 -- for every peak from 1 to 10,000 and every pixel of codes from 4 to 1,019
 unfoldable pub Demand : Type 0
-Demand = (peak : ℕ) → 1 ≤ peak → peak ≤ 10000 → (p : Pixel) → ((i : Component) → (4 ≤ p i) × (p i ≤ 1019)) → Voted peak p
+Demand = (source : Source) → 1 ≤ source .peak → source .peak ≤ 10000 → (p : Pixel) → ((i : Component) → (4 ≤ p i) × (p i ≤ 1019)) → Voted source p

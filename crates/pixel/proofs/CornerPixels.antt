@@ -6,6 +6,8 @@ use native.Mathlib.Omega.{arith}
 use lib.Dec.{lit<}
 use Rattle.laws.specs.Largest.{largest}
 use Rattle.quantity.specs.Units.{units, thousand, lastPosition}
+use Rattle.quantity.specs.declared.Source.{Source}
+use Rattle.quantity.specs.Source.{gradedAt}
 use Rattle.quantity.specs.Component.{Component, red, green, blue, Pixel, pixel, brightest}
 use Rattle.pq.specs.LightTable.{lightTable, lightEntry}
 use Rattle.position.specs.Position.{codeLight, lightAt, positionOf}
@@ -21,7 +23,7 @@ use Rattle.pixel.specs.CornerPixels.{Converts, CornerPixels}
 use Rattle.pixel.proofs.PixelLaws.{mapped-by, bent-of-light, brightest-lit, code-dark}
 
 -- all that a code is computed by
-computed : ℕ → Pixel → Component → ℕ
+computed : Source → Pixel → Component → ℕ
 unfolding largest units thousand lightTable lightEntry codeLight bentLight mappedLight stepTable step reaches hlgCode brightestPosition code
 computed = code
 
@@ -59,7 +61,7 @@ no-light c h = omega arith
 
 all-dark : (peak c : ℕ) → codeLight c ≡ 0 → Converts peak (pixel c c c) 64 64 64
 all-dark peak c h =
-    let d = code-dark peak (pixel c c c) (no-light c h) in
+    let d = code-dark (gradedAt peak) (pixel c c c) (no-light c h) in
     record { to-red = d red; to-green = d green; to-blue = d blue }
 
 -- ---- past a peak above 1,000 cd/m2 the bent light is the light at the position of 1,000

@@ -5,6 +5,7 @@ use native.Mathlib.Nat.{mul-le-mul-right, mul-div-cancel-left}
 use native.Mathlib.Decide.{decLe}
 use native.Mathlib.Omega.{arith}
 use Rattle.laws.proofs.DivisionLaws.{floor-grows}
+use Rattle.quantity.specs.declared.Source.{Source}
 use Rattle.quantity.specs.Component.{Component, Pixel, brightest}
 use Rattle.position.specs.Position.{codePosition, codeLight, lightAt}
 use Rattle.position.proofs.LightLaws.{light-grows, code-light-at, code-position-grows}
@@ -24,10 +25,10 @@ module _ (peak : ℕ) (x : Pixel) (m : ℕ) (i j : Component) (h : x i ≤ x j) 
   unfolding codeOf
   ordered-of = (mapped-grows, code-grows _ (mappedOf peak x m i) (mappedOf peak x m j) mapped-grows)
 
-pub ordered : (peak : ℕ) (p : Pixel) (i j : Component) → codeLight (p i) ≤ codeLight (p j)
-    → (mapped peak p i ≤ mapped peak p j) × (code peak p i ≤ code peak p j)
+pub ordered : (source : Source) (p : Pixel) (i j : Component) → codeLight (p i) ≤ codeLight (p j)
+    → (mapped source p i ≤ mapped source p j) × (code source p i ≤ code source p j)
 unfolding code
-ordered peak p = ordered-of peak (lights p) (brightestPosition p)
+ordered source p = ordered-of (source .peak) (lights p) (brightestPosition p)
 
 -- ---- every component of a grey is what its light is bent to, where that is the light at its position
 abbrev grey : ℕ → Pixel
@@ -50,9 +51,9 @@ module _ (peak : ℕ) {l m k n : ℕ} (e : l ≡ lightAt m) (f : k ≡ lightAt n
   unfolding codeOf mappedOf
   greys-of i j = grey-grows (mappedOf peak (grey l) m i) (mappedOf peak (grey k) n i) (grey-grown i)
 
-pub greys : (peak c d : ℕ) → c ≤ d → (i j : Component) → code peak (λ k. c) i ≤ code peak (λ k. d) j
+pub greys : (source : Source) (c d : ℕ) → c ≤ d → (i j : Component) → code source (λ k. c) i ≤ code source (λ k. d) j
 unfolding code brightestPosition
-greys peak c d h = greys-of peak (at c) (at d) (code-position-grows (brightest (grey c)) (brightest (grey d)) (omega arith))
+greys source c d h = greys-of (source .peak) (at c) (at d) (code-position-grows (brightest (grey c)) (brightest (grey d)) (omega arith))
   where
     at : (c : ℕ) → codeLight c ≡ lightAt (codePosition (brightest (grey c)))
     at c = code-light-at c ∙ ap (λ D. lightAt (codePosition D)) (omega arith)

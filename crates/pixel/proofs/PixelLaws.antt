@@ -5,6 +5,7 @@ use native.Mathlib.Nat.{le-trans, zero-div, zero-mul}
 use native.Mathlib.Omega.{arith}
 use Rattle.laws.proofs.DivisionLaws.{floor-le, lt-floor}
 use Rattle.quantity.specs.Units.{thousand, tenThousand, lastPosition}
+use Rattle.quantity.specs.declared.Source.{Source}
 use Rattle.quantity.specs.Component.{Component, Pixel, brightest}
 use Rattle.quantity.proofs.ComponentLaws.{brightest-at, each-le, brightest-of}
 use Rattle.position.specs.Position.{codePosition, codeLight, lightAt}
@@ -61,13 +62,13 @@ pub brightest-lit : (p : Pixel) → brightest (lights p) ≡ lightAt (brightestP
 unfolding brightestPosition brightestLight
 brightest-lit p = light-of-brightest p ∙ code-light-at (brightest p)
 
-pub mapped-dark : (peak : ℕ) (p : Pixel) → brightestLight p ≡ 0 → (i : Component) → mapped peak p i ≡ 0
+pub mapped-dark : (source : Source) (p : Pixel) → brightestLight p ≡ 0 → (i : Component) → mapped source p i ≡ 0
 unfolding mapped
-mapped-dark peak p = mapped-of-none peak (lights p) (brightestPosition p)
+mapped-dark source p = mapped-of-none (source .peak) (lights p) (brightestPosition p)
 
-pub code-dark : (peak : ℕ) (p : Pixel) → brightestLight p ≡ 0 → (i : Component) → code peak p i ≡ 64
+pub code-dark : (source : Source) (p : Pixel) → brightestLight p ≡ 0 → (i : Component) → code source p i ≡ 64
 unfolding code
-code-dark peak p h i = ap (hlgCode _) (mapped-dark peak p h i) ∙ code-black _
+code-dark source p h i = ap (hlgCode _) (mapped-dark source p h i) ∙ code-black _
 
 -- the ranges of lights, positions and codes
 pub component-le : (p : Pixel) (i : Component) → codeLight (p i) ≤ brightestLight p
@@ -81,11 +82,12 @@ pub brightest-position-range : (p : Pixel) → brightestPosition p ≤ lastPosit
 unfolding brightestPosition lastPosition
 brightest-position-range p = omega arith
 
-pub bent-at-most : (peak : ℕ) (p : Pixel) → bent peak p ≤ thousand
+pub bent-at-most : (source : Source) (p : Pixel) → bent source p ≤ thousand
 unfolding bent
-bent-at-most peak p =
-    subst (λ n. n ≤ thousand) (sym (bent-of-light peak (lights p) (brightestPosition p) (brightest-lit p))) (bent-le-thousand peak (brightestPosition p))
+bent-at-most source p =
+    let m = brightestPosition p in
+    subst (λ n. n ≤ thousand) (sym (bent-of-light (source .peak) (lights p) m (brightest-lit p))) (bent-le-thousand (source .peak) m)
 
-pub mapped-at-most : (peak : ℕ) (p : Pixel) (i : Component) → mapped peak p i ≤ thousand
+pub mapped-at-most : (source : Source) (p : Pixel) (i : Component) → mapped source p i ≤ thousand
 unfolding mapped
-mapped-at-most peak p i = le-trans (mapped-le-bent peak (lights p) (brightestPosition p) i) (bent-at-most peak p)
+mapped-at-most source p i = le-trans (mapped-le-bent (source .peak) (lights p) (brightestPosition p) i) (bent-at-most source p)

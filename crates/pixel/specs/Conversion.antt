@@ -1,6 +1,7 @@
--- A pixel under a declared peak, converted (scope, The highlight curve and HLG code): from three lights and the position of the brightest, then
+-- A pixel of a declared source, converted (scope, The highlight curve and HLG code): from three lights and the position of the brightest, then
 -- from ten-bit narrow-range codes, which have these. Lights in units, positions in 1/897,024.
 use Prim.Native.Nat.{ℕ}
+use Rattle.quantity.specs.declared.Source.{Source}
 use Rattle.quantity.specs.Component.{Component, red, green, blue, Pixel, brightest}
 use Rattle.position.specs.Position.{codePosition, codeLight}
 use Rattle.eetf.specs.Curve.{bentLight, mappedLight}
@@ -31,14 +32,14 @@ brightestLight p = brightest (lights p)
 unfoldable pub brightestPosition : Pixel → ℕ
 brightestPosition p = codePosition (brightest p)
 
-unfoldable pub bent : ℕ → Pixel → ℕ
+unfoldable pub bent : Source → Pixel → ℕ
 unfolding bentOf brightestLight
-bent peak p = bentOf peak (lights p) (brightestPosition p)
+bent source p = bentOf (source .peak) (lights p) (brightestPosition p)
 
-unfoldable pub mapped : ℕ → Pixel → Component → ℕ
+unfoldable pub mapped : Source → Pixel → Component → ℕ
 unfolding mappedOf bent
-mapped peak p = mappedOf peak (lights p) (brightestPosition p)
+mapped source p = mappedOf (source .peak) (lights p) (brightestPosition p)
 
-unfoldable pub code : ℕ → Pixel → Component → ℕ
+unfoldable pub code : Source → Pixel → Component → ℕ
 unfolding codeOf mapped
-code peak p = codeOf peak (lights p) (brightestPosition p)
+code source p = codeOf (source .peak) (lights p) (brightestPosition p)

@@ -1,14 +1,15 @@
 -- The twelve marked pixels (scope, Corner pixels): document 002's colours of 1,000 cd/m2, the ends of the code range, and the first code above black.
 use mathlib.Core.Path.{_≡_}
 use Prim.Native.Nat.{ℕ}
+use Rattle.quantity.specs.Source.{gradedAt}
 use Rattle.quantity.specs.Component.{red, green, blue, Pixel, pixel}
 use Rattle.pixel.specs.Conversion.{code}
 
 -- a pixel under a peak has these HLG codes
 pub record Converts (peak : ℕ) (p : Pixel) (r g b : ℕ) : Type 0 where
-  pub to-red : code peak p red ≡ r
-  pub to-green : code peak p green ≡ g
-  pub to-blue : code peak p blue ≡ b
+  pub to-red : code (gradedAt peak) p red ≡ r
+  pub to-green : code (gradedAt peak) p green ≡ g
+  pub to-blue : code (gradedAt peak) p blue ≡ b
 
 pub record CornerPixels : Type 0 where
   pub black : Converts 1000 (pixel 64 64 64) 64 64 64

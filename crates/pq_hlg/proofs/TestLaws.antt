@@ -15,7 +15,7 @@ use Rattle.rows.specs.declared.RowAnswer.the-variants.{Converted, Refused}
 use Rattle.rows.specs.Row.{spanBytes}
 use Rattle.rows.specs.Answer.{outside, bytesAfter, hostNumber}
 use Rattle.rows.proofs.AnswerLaws.{neither, either, refused-not-converted, Accepted, accepted, host-number-fits, refused-after, converted-after}
-use Rattle.span.specs.Span.{hlgRead, convertedInto}
+use Rattle.span.specs.Span.{sourceRead, hlgRead, convertedInto}
 use Rattle.span.proofs.SpanLaws.{filled}
 use Rattle.pq_hlg.specs.Pixel.{peakRefused, sampleRefused, codeRefused}
 use Rattle.pq_hlg.specs.Row.{rowAnswer}
@@ -29,9 +29,12 @@ peak-taken peak e =
     above-zero : (n : ℕ) → (n ≡ 0 → ⊥) → 1 ≤ n
     above-zero n h = omega arith
 
--- a peak that is taken is read as it is
-pub peak-read : (peak : ℕ) → peakRefused peak ≡ false → peakRead peak ≡ peak
-peak-read peak e = let t = peak-taken peak e in omega arith
+-- a source whose peak is taken is read as it is
+pub source-read : (source : Source) → peakRefused (source .peak) ≡ false → sourceRead source ≡ source
+source-read source e =
+    let t = peak-taken (source .peak) e in
+    let same : peakRead (source .peak) ≡ source .peak = omega arith in
+    rw same
 
 -- an RGB code that is taken is read as it is
 pub code-read : (d : ℕ) → codeRefused d ≡ false → hlgRead d ≡ d
@@ -55,17 +58,17 @@ module _ (source : Source) (row : List ℕ) (bytes first end : ℕ) where
   row-number-fits =
       either (λ a. hostNumber a ≤ 6291456) (peakRefused (source .peak)) _ _ (λ _. omega arith) (λ _. host-number-fits sampleRefused row bytes first end)
 
--- the destination of a call that is refused, and of one that converts, by any conversion under a peak
-module _ (f : ℕ → Pixel → Pixel) (source : Source) (row dst : List ℕ) (first end : ℕ) where
+-- the destination of a call that is refused, and of one that converts, by any conversion of a source
+module _ (f : Source → Pixel → Pixel) (source : Source) (row dst : List ℕ) (first end : ℕ) where
   pub row-refused : {a : RowAnswer} {number place : ℕ} → a ≡ rowAnswer source row (length dst) first end → a ≡ Refused number place
-      → dst ≡ bytesAfter (rowAnswer source row (length dst) first end) (f (source .peak)) row dst first end
-  row-refused e told = refused-after (f (source .peak)) row dst first end (sym e ∙ told)
+      → dst ≡ bytesAfter (rowAnswer source row (length dst) first end) (f source) row dst first end
+  row-refused e told = refused-after (f source) row dst first end (sym e ∙ told)
 
   pub row-converted : (ys : List ℕ) (to : ℕ) → rowAnswer source row (length dst) first end ≡ Converted
-      → ys ≡ convertedInto (f (peakRead (source .peak))) (take (length row - 6 * first) (drop (6 * first) row)) (take (to - 6 * first) (drop (6 * first) dst))
+      → ys ≡ convertedInto (f (sourceRead source)) (take (length row - 6 * first) (drop (6 * first) row)) (take (to - 6 * first) (drop (6 * first) dst))
       → to ≡ 6 * end
       → take (6 * first) dst ++ (ys ++ drop (to - 6 * first) (drop (6 * first) dst))
-      ≡ bytesAfter (rowAnswer source row (length dst) first end) (f (source .peak)) row dst first end
+      ≡ bytesAfter (rowAnswer source row (length dst) first end) (f source) row dst first end
   row-converted ys to e y at-end =
       let tested = row-accepted source row (length dst) first end e in
       let k = tested .1 in
@@ -73,7 +76,7 @@ module _ (f : ℕ → Pixel → Pixel) (source : Source) (row dst : List ℕ) (f
       let part = take (to - 6 * first) (drop (6 * first) dst) in
       let room : length part ≡ 6 * (end - first) = simp (length-take, length-drop) (omega (arith, k .same, k .within)) in
       let enough : 6 * (end - first) ≤ length src = simp (length-take, length-drop) (omega (arith, k .within)) in
-      let peak = ap (λ (p : ℕ). spanBytes (f p) src 0 (end - first)) (peak-read (source .peak) (tested .0)) in
+      let read = ap (λ (s : Source). spanBytes (f s) src 0 (end - first)) (source-read source (tested .0)) in
       ap (λ (n : ℕ). take (6 * first) dst ++ (ys ++ drop (n - 6 * first) (drop (6 * first) dst))) at-end
-      ∙ converted-after (f (source .peak)) row dst first end ys e (k .ordered) (k .within)
-      (y ∙ filled (f (peakRead (source .peak))) src part (end - first) room enough ∙ peak)
+      ∙ converted-after (f source) row dst first end ys e (k .ordered) (k .within)
+      (y ∙ filled (f (sourceRead source)) src part (end - first) room enough ∙ read)

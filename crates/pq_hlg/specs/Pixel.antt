@@ -27,7 +27,7 @@ pixelAnswer source p =
     (cond (sampleRefused (p red)) (Refused 9 0)
     (cond (sampleRefused (p green)) (Refused 9 1)
     (cond (sampleRefused (p blue)) (Refused 9 2)
-    (let codes = code (source .peak) p in Codes (codes red) (codes green) (codes blue)))))
+    (let codes = code source p in Codes (codes red) (codes green) (codes blue)))))
 
 -- refusal 14: an RGB code below 64 or above 1,019
 abbrev pub codeRefused : ℕ → Bool
@@ -40,5 +40,5 @@ ycbcrAnswer p =
 
 -- demand 3 of the pixel, where the call gives codes
 unfoldable pub VotedWhere : PixelAnswer → Source → Pixel → Type 0
-VotedWhere (Codes r g b) source p = Voted (source .peak) p
+VotedWhere (Codes r g b) source p = Voted source p
 VotedWhere (Refused number place) source p = Unit {0}

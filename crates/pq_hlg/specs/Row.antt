@@ -20,7 +20,7 @@ rowAnswer source row bytes first end = cond (peakRefused (source .peak)) (Refuse
 -- the destination afterwards: what a format delivers of the span in its places, or all as it was
 abbrev pub deliveredAfter : SignalFormat → Source → List ℕ → List ℕ → ℕ → ℕ → List ℕ
 deliveredAfter format source row dst first end =
-    bytesAfter (rowAnswer source row (length dst) first end) (delivered format (source .peak)) row dst first end
+    bytesAfter (rowAnswer source row (length dst) first end) (delivered format source) row dst first end
 
 -- RGB: the HLG codes of the span, or all as it was
 unfoldable pub destinationAfter : Source → List ℕ → List ℕ → ℕ → ℕ → List ℕ

@@ -9,6 +9,7 @@ use borrow.Author.Count.{below-none, below-more}
 use lib.ListN.{length, getD, set, length-set, length-append}
 use lib.Seq.{getD-set-same, getD-set-other}
 use Rattle.quantity.specs.Units.{thousand}
+use Rattle.quantity.specs.declared.Source.{Source}
 use Rattle.quantity.specs.Component.{Component, red, green, blue, Pixel, pixel}
 use Rattle.position.proofs.LightLaws.{code-light-at, first-light}
 use Rattle.hlg.specs.Code.{luminance, hlgCode, HlgCodes}
@@ -27,9 +28,9 @@ no-light : brightestLight (pixel 64 64 64) ≡ 0
 unfolding brightestLight
 no-light = omega (arith, code-light-at 64, first-light)
 
-pub black-mapped : (peak : ℕ) {r g b x y z : ℕ} → r ≡ 64 → g ≡ 64 → b ≡ 64 → x ≡ 0 → y ≡ 0 → z ≡ 0 → HasMapped peak r g b x y z
-black-mapped peak er eg eb ex ey ez =
-    let dark : (i : Component) → 0 ≡ mapped peak (pixel 64 64 64) i = λ i. sym (mapped-dark peak (pixel 64 64 64) no-light i) in
+pub black-mapped : (source : Source) {r g b x y z : ℕ} → r ≡ 64 → g ≡ 64 → b ≡ 64 → x ≡ 0 → y ≡ 0 → z ≡ 0 → HasMapped source r g b x y z
+black-mapped source er eg eb ex ey ez =
+    let dark : (i : Component) → 0 ≡ mapped source (pixel 64 64 64) i = λ i. sym (mapped-dark source (pixel 64 64 64) no-light i) in
     rw (er, eg, eb, ex, ey, ez) (record { red = dark red; green = dark green; blue = dark blue })
 
 -- three words stored one after another
@@ -69,23 +70,23 @@ module _ (l : List ℕ) (j x y z : ℕ) where
   words-here h blue = stored-third l (3 * j) x y z h
 
 -- no pixel mapped, and one more
-pub mapped-none : (peak : ℕ) (row words : List ℕ) → MappedTo peak row words 0
+pub mapped-none : (source : Source) (row words : List ℕ) → MappedTo source row words 0
 unfolding MappedTo
-mapped-none peak row words = below-none _
+mapped-none source row words = below-none _
 
-pub mapped-more : (peak : ℕ) (row words : List ℕ) (j : ℕ) {r g b x y z : ℕ}
-    → MappedTo peak row words j → pixel r g b ≡ pixelAt row j → HasMapped peak r g b x y z
-    → 3 * j + 2 < length words → MappedTo peak row (storedAt words j x y z) (j + 1)
+pub mapped-more : (source : Source) (row words : List ℕ) (j : ℕ) {r g b x y z : ℕ}
+    → MappedTo source row words j → pixel r g b ≡ pixelAt row j → HasMapped source r g b x y z
+    → 3 * j + 2 < length words → MappedTo source row (storedAt words j x y z) (j + 1)
 unfolding MappedTo
-mapped-more peak row words j {r} {g} {b} {x} {y} {z} before p m room =
-    let here : (i : Component) → pixel x y z i ≡ mapped peak (pixel r g b) i = elim [ red ↦ m .red | green ↦ m .green | blue ↦ m .blue ] in
+mapped-more source row words j {r} {g} {b} {x} {y} {z} before p m room =
+    let here : (i : Component) → pixel x y z i ≡ mapped source (pixel r g b) i = elim [ red ↦ m .red | green ↦ m .green | blue ↦ m .blue ] in
     below-more _ j (λ k h i. words-before words j x y z k h i ∙ before k h i)
-    (λ i. words-here words j x y z room i ∙ here i ∙ ap (λ (q : Pixel). mapped peak q i) p)
+    (λ i. words-here words j x y z room i ∙ here i ∙ ap (λ (q : Pixel). mapped source q i) p)
 
 -- a mapped component is at most 1,000 cd/m2
-pub within-mapped : (peak : ℕ) (row words : List ℕ) (n : ℕ) → MappedTo peak row words n → Within words n
+pub within-mapped : (source : Source) (row words : List ℕ) (n : ℕ) → MappedTo source row words n → Within words n
 unfolding MappedTo Within
-within-mapped peak row words n m j h i = rw (m j h i) (mapped-at-most peak (pixelAt row j) i)
+within-mapped source row words n m j h i = rw (m j h i) (mapped-at-most source (pixelAt row j) i)
 
 pub within-at : (words : List ℕ) (n j : ℕ) → Within words n → j < n → (i : Component) → wordsAt words j i ≤ thousand
 unfolding Within
@@ -104,18 +105,18 @@ roots-more words roots j g before here room =
 
 module _ (format : SignalFormat) where
   -- the samples of the mapped pixels are those of the span, and so are the bytes
-  samples-of-pixel : (peak : ℕ) (p q : Pixel) → ((i : Component) → p i ≡ mapped peak q i) → samplesOf format p ≡ delivered format peak q
+  samples-of-pixel : (source : Source) (p q : Pixel) → ((i : Component) → p i ≡ mapped source q i) → samplesOf format p ≡ delivered format source q
   unfolding code
-  samples-of-pixel peak p q e = ap (samplesOf format) (fun-ext e)
+  samples-of-pixel source p q e = ap (samplesOf format) (fun-ext e)
 
-  pub block-is-span : (peak : ℕ) (row words : List ℕ) (n : ℕ) → MappedTo peak row words n
-      → blockBytes format words n ≡ spanBytes (delivered format peak) row 0 n
+  pub block-is-span : (source : Source) (row words : List ℕ) (n : ℕ) → MappedTo source row words n
+      → blockBytes format words n ≡ spanBytes (delivered format source) row 0 n
   unfolding MappedTo blockBytes spanBytes
-  block-is-span peak row words zero m = refl
-  block-is-span peak row words (suc n) m =
-      let here = samples-of-pixel peak (wordsAt words n) (pixelAt row n) (m n (omega arith)) in
+  block-is-span source row words zero m = refl
+  block-is-span source row words (suc n) m =
+      let here = samples-of-pixel source (wordsAt words n) (pixelAt row n) (m n (omega arith)) in
       let at : pixelAt row n ≡ pixelAt row (0 + n) = ap (pixelAt row) (sym (zero-add n)) in
-      ap₂ (λ (l : List ℕ) (p : Pixel). l ++ pixelBytes p) (block-is-span peak row words n (λ k h. m k (omega arith))) (here ∙ ap (delivered format peak) at)
+      ap₂ (λ (l : List ℕ) (p : Pixel). l ++ pixelBytes p) (block-is-span source row words n (λ k h. m k (omega arith))) (here ∙ ap (delivered format source) at)
 
   -- the bytes of one pixel more
   pub block-more : (words : List ℕ) (n : ℕ) → blockBytes format words (n + 1) ≡ blockBytes format words n ++ pixelBytes (samplesOf format (wordsAt words n))

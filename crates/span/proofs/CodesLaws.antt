@@ -6,6 +6,7 @@ use native.Mathlib.Nat.{div-zero}
 use native.Mathlib.Omega.{arith}
 use Rattle.laws.proofs.DivisionLaws.{floor-is}
 use Rattle.quantity.specs.Units.{units, tenThousand, lastPosition}
+use Rattle.quantity.specs.declared.Source.{Source}
 use Rattle.quantity.specs.Component.{Component, red, green, blue, Pixel}
 use Rattle.pq.specs.LightTable.{lightTable}
 use Rattle.pq.specs.Pq.{entryIn}
@@ -21,32 +22,32 @@ unscaled : (c m : ℕ) → c ≤ m → c ≡ c * m / m
 unscaled c zero h = let e : c ≡ 0 = omega arith in e ∙ sym (div-zero (c * 0))
 unscaled c (suc m) h = let pos : 0 < suc m = omega arith in floor-is pos .1 (omega arith, omega arith)
 
-module _ (peak : ℕ) (p : Pixel) where
+module _ (source : Source) (p : Pixel) where
   pub brightest-light-is : {R G B M : ℕ} → R ≡ codeLight (p red) → G ≡ codeLight (p green) → B ≡ codeLight (p blue) → M ≡ max (max R G) B
       → M ≡ brightestLight p
   unfolding brightestLight
   brightest-light-is er eg eb e = omega arith
 
   -- by a lent light table l and the peak's position w; neither light nor position is past the end at which the curve reads it
-  pub bent-is : (l : List ℕ) (w : ℕ) {M m N : ℕ} → l ≡ lightTable → w ≡ positionOf (peak * units) → M ≡ brightestLight p → m ≡ brightestPosition p
-      → N ≡ bentLightIn (entryIn l) peak (peakPositionRead w) (min M tenThousand) (min m lastPosition) → N ≡ bent peak p
+  pub bent-is : (l : List ℕ) (w : ℕ) {M m N : ℕ} → l ≡ lightTable → w ≡ positionOf (source .peak * units) → M ≡ brightestLight p → m ≡ brightestPosition p
+      → N ≡ bentLightIn (entryIn l) (source .peak) (peakPositionRead w) (min M tenThousand) (min m lastPosition) → N ≡ bent source p
   unfolding bent
   bent-is l w {M} {m} el ew eM em e =
       e
-      ∙ bent-on-light-table l peak w (min M tenThousand) (min m lastPosition) el ew
-      ∙ ap₂ (bentLight peak) (omega (arith, brightest-light-at-most p)) (omega (arith, brightest-position-range p))
+      ∙ bent-on-light-table l (source .peak) w (min M tenThousand) (min m lastPosition) el ew
+      ∙ ap₂ (bentLight (source .peak)) (omega (arith, brightest-light-at-most p)) (omega (arith, brightest-position-range p))
 
-  pub mapped-is : (i : Component) {C M N x : ℕ} → C ≡ codeLight (p i) → M ≡ brightestLight p → N ≡ bent peak p → x ≡ mappedLight C M N → x ≡ mapped peak p i
+  pub mapped-is : (i : Component) {C M N x : ℕ} → C ≡ codeLight (p i) → M ≡ brightestLight p → N ≡ bent source p → x ≡ mappedLight C M N → x ≡ mapped source p i
   unfolding mapped
   mapped-is i eC eM eN e = e ∙ rw (eC, eM, eN)
 
   -- where nothing is bent the mapped components are the lights
-  pub mapped-unbent : (i : Component) {C M N : ℕ} → C ≡ codeLight (p i) → M ≡ brightestLight p → N ≡ bent peak p → M ≡ N → C ≡ mapped peak p i
+  pub mapped-unbent : (i : Component) {C M N : ℕ} → C ≡ codeLight (p i) → M ≡ brightestLight p → N ≡ bent source p → M ≡ N → C ≡ mapped source p i
   unfolding mapped mappedLight
   mapped-unbent i {C} {M} eC eM eN same =
-      unscaled C M (omega (arith, component-le p i)) ∙ ap₂ (λ (c d : ℕ). c * d / M) eC (same ∙ eN) ∙ ap (λ (d : ℕ). codeLight (p i) * bent peak p / d) eM
+      unscaled C M (omega (arith, component-le p i)) ∙ ap₂ (λ (c d : ℕ). c * d / M) eC (same ∙ eN) ∙ ap (λ (d : ℕ). codeLight (p i) * bent source p / d) eM
 
-  pub codes-are : {R G B r g b : ℕ} → R ≡ mapped peak p red → G ≡ mapped peak p green → B ≡ mapped peak p blue → HlgCodes R G B r g b
-      → (r ≡ code peak p red) × (g ≡ code peak p green) × (b ≡ code peak p blue)
+  pub codes-are : {R G B r g b : ℕ} → R ≡ mapped source p red → G ≡ mapped source p green → B ≡ mapped source p blue → HlgCodes R G B r g b
+      → (r ≡ code source p red) × (g ≡ code source p green) × (b ≡ code source p blue)
   unfolding code
   codes-are eR eG eB h = (h .red ∙ rw (eR, eG, eB), h .green ∙ rw (eR, eG, eB), h .blue ∙ rw (eR, eG, eB))

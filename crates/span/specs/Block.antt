@@ -5,6 +5,7 @@ use mathlib.Core.List.{List, [], _++_}
 use Prim.Native.Nat.{ℕ, zero, suc, _+_, _*_, _≤_, _<_}
 use lib.ListN.{getD, set}
 use Rattle.quantity.specs.Units.{thousand}
+use Rattle.quantity.specs.declared.Source.{Source}
 use Rattle.quantity.specs.Component.{Component, red, green, blue, Pixel, pixel}
 use Rattle.hlg.specs.Code.{luminance, hlgCode}
 use Rattle.hlg.specs.Root.{IsRoot}
@@ -14,10 +15,10 @@ use Rattle.ycbcr.specs.declared.SignalFormat.{SignalFormat}
 use Rattle.ycbcr.specs.Delivery.{inFormat}
 
 -- x, y, z are the mapped components of the pixel r g b
-pub record HasMapped (peak r g b x y z : ℕ) : Type 0 where
-  pub red : x ≡ mapped peak (pixel r g b) red
-  pub green : y ≡ mapped peak (pixel r g b) green
-  pub blue : z ≡ mapped peak (pixel r g b) blue
+pub record HasMapped (source : Source) (r g b x y z : ℕ) : Type 0 where
+  pub red : x ≡ mapped source (pixel r g b) red
+  pub green : y ≡ mapped source (pixel r g b) green
+  pub blue : z ≡ mapped source (pixel r g b) blue
 
 -- the three words of pixel j, these stored, and their luminance
 abbrev pub wordsAt : List ℕ → ℕ → Pixel
@@ -30,8 +31,8 @@ abbrev pub luminanceAt : List ℕ → ℕ → ℕ
 luminanceAt words j = luminance (wordsAt words j red) (wordsAt words j green) (wordsAt words j blue)
 
 -- the first n pixels of a row are mapped to the words
-unfoldable pub MappedTo : ℕ → List ℕ → List ℕ → ℕ → Type 0
-MappedTo peak row words n = (j : ℕ) → j < n → (i : Component) → wordsAt words j i ≡ mapped peak (pixelAt row j) i
+unfoldable pub MappedTo : Source → List ℕ → List ℕ → ℕ → Type 0
+MappedTo source row words n = (j : ℕ) → j < n → (i : Component) → wordsAt words j i ≡ mapped source (pixelAt row j) i
 
 -- the words of the first n pixels are at most 1,000 cd/m2
 unfoldable pub Within : List ℕ → ℕ → Type 0

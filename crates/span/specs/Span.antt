@@ -11,13 +11,17 @@ use Rattle.rows.specs.Row.{withSpan}
 use Rattle.ycbcr.specs.declared.SignalFormat.{SignalFormat}
 use Rattle.ycbcr.specs.Delivery.{delivered}
 
--- the HLG codes of a pixel under the declared peak as it is read
+-- what is declared of a source as it is read
+abbrev pub sourceRead : Source → Source
+sourceRead source = record { peak = peakRead (source .peak) }
+
+-- the HLG codes of a pixel of such a source
 abbrev pub codesUnder : Source → Pixel → Pixel
-codesUnder source = code (peakRead (source .peak))
+codesUnder source = code (sourceRead source)
 
 -- what a format delivers of them
 abbrev pub deliveredUnder : SignalFormat → Source → Pixel → Pixel
-deliveredUnder format source = delivered format (peakRead (source .peak))
+deliveredUnder format source = delivered format (sourceRead source)
 
 -- an RGB code as it is read: HLG has none below 64 and none above 1,019
 abbrev pub hlgRead : ℕ → ℕ

@@ -24,6 +24,7 @@ use crate::root::lower_root;
 use crate::root::weigh;
 use hlg::Codes;
 use quantity::Position;
+use quantity::Source;
 use rows::sample_at;
 use ycbcr::SignalFormat;
 
@@ -33,19 +34,19 @@ pub(crate) fn convert_block(
     steps: &[u64; 955],
     hints: &[u64; 1361],
     w: Position,
-    peak: u64,
+    source: Source,
     format: SignalFormat,
     src: &[u8],
     dst: &mut [u8],
     pixels: usize,
 )
-    requires { ⌜ (now lights ≡ lightTable) × (now steps ≡ stepTable) × (w .0 ≡ positionOf (peak * units)) × (pixels ≤ 32)
+    requires { ⌜ (now lights ≡ lightTable) × (now steps ≡ stepTable) × (w .0 ≡ positionOf (source .peak * units)) × (pixels ≤ 32)
         × (length (now dst) ≡ 6 * pixels) × (6 * pixels ≤ length (now src)) ⌝ }
-    ensures { λ _. ⌜ now (dst .exit) ≡ spanBytes (delivered format peak) (now (src .entry)) 0 pixels ⌝ }
+    ensures { λ _. ⌜ now (dst .exit) ≡ spanBytes (delivered format source) (now (src .entry)) 0 pixels ⌝ }
 {
     let mut mapped = [0u64; 96];
     let mut roots = [0u64; 32];
-    map_pixels(lights, hints, w, peak, src, &mut mapped, pixels);
+    map_pixels(lights, hints, w, source, src, &mut mapped, pixels);
     find_roots(hints, &mapped, &mut roots, pixels);
     code_pixels(steps, hints, format, &mapped, &roots, dst, pixels);
 }
@@ -80,14 +81,14 @@ fn map_next(
     lights: &[u64; 3505],
     hints: &[u64; 1361],
     w: Position,
-    peak: u64,
+    source: Source,
     last: MappedPixel,
     src: &[u8],
 ) -> MappedPixel
-    requires { ⌜ (now lights ≡ lightTable) × (w .0 ≡ positionOf (peak * units)) × (length (now src) ≡ 6)
-        × HasMapped peak (last .red) (last .green) (last .blue) (last .mapped .red) (last .mapped .green) (last .mapped .blue) ⌝ }
+    requires { ⌜ (now lights ≡ lightTable) × (w .0 ≡ positionOf (source .peak * units)) × (length (now src) ≡ 6)
+        × HasMapped source (last .red) (last .green) (last .blue) (last .mapped .red) (last .mapped .green) (last .mapped .blue) ⌝ }
     ensures { λ m. ⌜ (m .red ≡ sampleAt (now (src .entry)) 0) × (m .green ≡ sampleAt (now (src .entry)) 1) × (m .blue ≡ sampleAt (now (src .entry)) 2)
-        × HasMapped peak (m .red) (m .green) (m .blue) (m .mapped .red) (m .mapped .green) (m .mapped .blue) ⌝ }
+        × HasMapped source (m .red) (m .green) (m .blue) (m .mapped .red) (m .mapped .green) (m .mapped .blue) ⌝ }
 {
     let r = sample_at(src, 0);
     let g = sample_at(src, 1);
@@ -99,7 +100,7 @@ fn map_next(
             }
         }
     }
-    let mapped = mapped_lights(lights, hints, w, peak, r, g, b);
+    let mapped = mapped_lights(lights, hints, w, source, r, g, b);
     MappedPixel {
         red: r,
         green: g,
@@ -113,21 +114,21 @@ fn map_pixels(
     lights: &[u64; 3505],
     hints: &[u64; 1361],
     w: Position,
-    peak: u64,
+    source: Source,
     src: &[u8],
     words: &mut [u64; 96],
     pixels: usize,
 )
-    requires { ⌜ (now lights ≡ lightTable) × (w .0 ≡ positionOf (peak * units)) × (pixels ≤ 32) × (6 * pixels ≤ length (now src))
+    requires { ⌜ (now lights ≡ lightTable) × (w .0 ≡ positionOf (source .peak * units)) × (pixels ≤ 32) × (6 * pixels ≤ length (now src))
         × (length (now words) ≡ 96) ⌝ }
-    ensures { λ _. ⌜ MappedTo peak (now (src .entry)) (now (words .exit)) pixels ⌝ }
+    ensures { λ _. ⌜ MappedTo source (now (src .entry)) (now (words .exit)) pixels ⌝ }
 {
     let mut last = mapped_black();
     let mut j = 0;
     while j < pixels {
         let from = 6 * j;
         let to = from + 6;
-        last = map_next(lights, hints, w, peak, last, &src[from..to]);
+        last = map_next(lights, hints, w, source, last, &src[from..to]);
         let m = last.mapped;
         store_words(m, words, j);
         j += 1;

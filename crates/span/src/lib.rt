@@ -20,7 +20,7 @@ ghost use Rattle.hlg_steps.specs.StepTable.{stepTable};
 ghost use Rattle.rows.specs.Row.{spanBytes};
 ghost use Rattle.ycbcr.specs.YCbCr.{luma, cb, cr};
 ghost use Rattle.ycbcr.specs.Delivery.{delivered};
-ghost use Rattle.span.specs.Span.{codesUnder, deliveredUnder, hlgRead, convertedInto};
+ghost use Rattle.span.specs.Span.{sourceRead, codesUnder, deliveredUnder, hlgRead, convertedInto};
 use block::convert_block;
 use delivery::luma_and_chroma;
 use eetf::read_peak;
@@ -57,12 +57,12 @@ pub fn convert_span(source: Source, format: SignalFormat, src: &[u8], dst: &mut 
     if pixels == 0 {
         return;
     }
-    let peak = read_peak(source.peak);
+    let read = read_source(source);
     let mut lights = [0u64; 3505];
-    let w = fill_lights(&mut lights, DisplayLight(peak * UNITS));
+    let w = fill_lights(&mut lights, DisplayLight(read.peak * UNITS));
     let steps = step_table();
     let hints = hint_table();
-    convert_blocks(&lights, &steps, &hints, w, peak, format, src, dst, pixels);
+    convert_blocks(&lights, &steps, &hints, w, read, format, src, dst, pixels);
 }
 
 // The HLG codes of one pixel, for which alone the tables are filled.
@@ -70,14 +70,23 @@ pub fn pixel_codes(source: Source, r: u64, g: u64, b: u64) -> Codes
     ensures { λ c. ⌜ (c .red ≡ codesUnder source (pixel r g b) red) × (c .green ≡ codesUnder source (pixel r g b) green)
         × (c .blue ≡ codesUnder source (pixel r g b) blue) ⌝ }
 {
-    let peak = read_peak(source.peak);
+    let read = read_source(source);
     let mut lights = [0u64; 3505];
-    let w = fill_lights(&mut lights, DisplayLight(peak * UNITS));
+    let w = fill_lights(&mut lights, DisplayLight(read.peak * UNITS));
     let steps = step_table();
     let hints = hint_table();
-    let m = mapped_lights(&lights, &hints, w, peak, r, g, b);
+    let m = mapped_lights(&lights, &hints, w, read, r, g, b);
     let root = lower_root(&hints, weigh(m.red, m.green, m.blue));
     near_codes(&steps, &hints, root, m.red, m.green, m.blue)
+}
+
+// What is declared of a source as it is read: its peak from 1 to 10,000 cd/m2.
+fn read_source(source: Source) -> Source
+    ensures { λ r. ⌜ (r ≡ sourceRead source) × (r .peak ≤ 10000) ⌝ }
+{
+    Source {
+        peak: read_peak(source.peak),
+    }
 }
 
 // Luma, Cb and Cr of three RGB codes.
@@ -102,15 +111,15 @@ fn convert_blocks(
     steps: &[u64; 955],
     hints: &[u64; 1361],
     w: Position,
-    peak: u64,
+    source: Source,
     format: SignalFormat,
     src: &[u8],
     dst: &mut [u8],
     pixels: usize,
 )
-    requires { ⌜ (now lights ≡ lightTable) × (now steps ≡ stepTable) × (w .0 ≡ positionOf (peak * units))
+    requires { ⌜ (now lights ≡ lightTable) × (now steps ≡ stepTable) × (w .0 ≡ positionOf (source .peak * units))
         × (6 * pixels ≤ length (now dst)) × (6 * pixels ≤ length (now src)) ⌝ }
-    ensures { λ _. ⌜ now (dst .exit) ≡ spanBytes (delivered format peak) (now (src .entry)) 0 pixels ++ drop (6 * pixels) (now (dst .entry)) ⌝ }
+    ensures { λ _. ⌜ now (dst .exit) ≡ spanBytes (delivered format source) (now (src .entry)) 0 pixels ++ drop (6 * pixels) (now (dst .entry)) ⌝ }
 {
     let mut j = 0;
     while j < pixels {
@@ -122,7 +131,7 @@ fn convert_blocks(
             steps,
             hints,
             w,
-            peak,
+            source,
             format,
             &src[from..to],
             &mut dst[from..to],

@@ -15,6 +15,7 @@ use position::light_of_code_in;
 use position::read_code;
 use quantity::DisplayLight;
 use quantity::Position;
+use quantity::Source;
 use quantity::brightest_of;
 use words::is_quotient;
 use words::upper_word;
@@ -44,20 +45,20 @@ pub(crate) fn mapped_lights(
     lights: &[u64; 3505],
     hints: &[u64; 1361],
     w: Position,
-    peak: u64,
+    source: Source,
     r: u64,
     g: u64,
     b: u64,
 ) -> Mapped
-    requires { ⌜ (now lights ≡ lightTable) × (w .0 ≡ positionOf (peak * units)) ⌝ }
-    ensures { λ m. ⌜ (m .red ≡ mapped peak (pixel r g b) red) × (m .green ≡ mapped peak (pixel r g b) green) × (m .blue ≡ mapped peak (pixel r g b) blue) ⌝ }
+    requires { ⌜ (now lights ≡ lightTable) × (w .0 ≡ positionOf (source .peak * units)) ⌝ }
+    ensures { λ m. ⌜ (m .red ≡ mapped source (pixel r g b) red) × (m .green ≡ mapped source (pixel r g b) green) × (m .blue ≡ mapped source (pixel r g b) blue) ⌝ }
 {
     let r_light = light_of_code_in(lights, r);
     let g_light = light_of_code_in(lights, g);
     let b_light = light_of_code_in(lights, b);
     let m1 = DisplayLight(brightest_of(r_light.0, g_light.0, b_light.0));
     let d = brightest_of(r, g, b);
-    let m2 = bent_light(lights, peak, w, m1, code_position(d));
+    let m2 = bent_light(lights, source.peak, w, m1, code_position(d));
     if m1.0 == m2.0 {
         return Mapped {
             red: r_light.0,

@@ -2,15 +2,16 @@
 -- red; both deliveries come from the same RGB codes, which give 304. The other seven are the table's.
 use mathlib.Core.Path.{_≡_}
 use Prim.Native.Nat.{ℕ}
+use Rattle.quantity.specs.Source.{gradedAt}
 use Rattle.quantity.specs.Component.{red, green, blue, Pixel, pixel}
 use Rattle.ycbcr.specs.declared.SignalFormat.the-variants.{YCbCr}
 use Rattle.ycbcr.specs.Delivery.{delivered}
 
 -- a pixel under a peak of 1,000 cd/m2 is delivered as this luma, Cb and Cr
 pub record Gives (p : Pixel) (y b r : ℕ) : Type 0 where
-  pub to-luma : delivered YCbCr 1000 p red ≡ y
-  pub to-cb : delivered YCbCr 1000 p green ≡ b
-  pub to-cr : delivered YCbCr 1000 p blue ≡ r
+  pub to-luma : delivered YCbCr (gradedAt 1000) p red ≡ y
+  pub to-cb : delivered YCbCr (gradedAt 1000) p green ≡ b
+  pub to-cr : delivered YCbCr (gradedAt 1000) p blue ≡ r
 
 pub record CornerColours : Type 0 where
   pub black : Gives (pixel 64 64 64) 64 512 512

@@ -1,5 +1,5 @@
--- What is delivered of a pixel (request 04): its HLG codes as they are, or luma and chroma of these same codes. A peak is in whole cd/m2.
-use Prim.Native.Nat.{ℕ}
+-- What is delivered of a pixel (request 04): its HLG codes as they are, or luma and chroma of these same codes.
+use Rattle.quantity.specs.declared.Source.{Source}
 use Rattle.quantity.specs.Component.{Pixel}
 use Rattle.pixel.specs.Conversion.{code}
 use Rattle.ycbcr.specs.declared.SignalFormat.{SignalFormat}
@@ -11,6 +11,6 @@ abbrev pub inFormat : SignalFormat → Pixel → Pixel
 inFormat Rgb p = p
 inFormat YCbCr p = ycbcr p
 
--- a pixel of PQ codes under a peak, converted
-abbrev pub delivered : SignalFormat → ℕ → Pixel → Pixel
-delivered format peak p = inFormat format (code peak p)
+-- a pixel of PQ codes of a source, converted
+abbrev pub delivered : SignalFormat → Source → Pixel → Pixel
+delivered format source p = inFormat format (code source p)

@@ -4,7 +4,7 @@ use mathlib.Core.Bool.{false}
 use borrow.Author.Needs.{needs}
 use Rattle.pq_hlg.specs.Pixel.{peakRefused, pixelAnswer, VotedWhere}
 use Rattle.distance.proofs.Theorem.{voted}
-use Rattle.pq_hlg.proofs.TestLaws.{peak-taken, peak-read}
+use Rattle.pq_hlg.proofs.TestLaws.{peak-taken, source-read}
 use Rattle.pq_hlg.proofs.convert_pixel.Statement.{statement}
 use Rattle.pq_hlg.proofs.convert_pixel.Tie as tie
 
@@ -54,7 +54,7 @@ taken c = let tested = c .before .before .before .before .before .before .before
 returns-5 : tie.Need-returns-5
 unfolding pixelAnswer VotedWhere
 returns-5 c =
-    let codes = rw (peak-read _ (taken c)) at (c .pixel-codes .ensures) in (
+    let codes = rw (source-read _ (taken c)) at (c .pixel-codes .ensures) in (
       simp (
         sym (c .before .before .before .before .before .before .before .before .refuses-peak .ensures),
         c .before .before .before .before .before .before .before .if1 .left,

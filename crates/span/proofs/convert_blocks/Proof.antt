@@ -14,11 +14,11 @@ use Rattle.span.proofs.convert_blocks.Statement.{statement}
 use Rattle.span.proofs.convert_blocks.Tie as tie
 
 abbrev Inv-loop : tie.InvT-loop
-Inv-loop lights steps hints w peak format src dst₀ pixels j₀ dst j =
-    (j ≤ pixels) × (length dst ≡ length dst₀) × (dst ≡ spanBytes (delivered format peak) src 0 j ++ drop (6 * j) dst₀)
+Inv-loop lights steps hints w source format src dst₀ pixels j₀ dst j =
+    (j ≤ pixels) × (length dst ≡ length dst₀) × (dst ≡ spanBytes (delivered format source) src 0 j ++ drop (6 * j) dst₀)
 
 abbrev μ-loop : tie.MeasureT-loop
-μ-loop lights steps hints w peak format src dst₀ pixels j₀ dst j = pixels - j
+μ-loop lights steps hints w source format src dst₀ pixels j₀ dst j = pixels - j
 
 loop-holds : tie.Need-loop-holds Inv-loop μ-loop
 unfolding spanBytes
@@ -45,7 +45,7 @@ loop-again c =
     let loop = c .before .before .before .before .before .before .before .loop in
     let n = c .before .before .before .before .before .fewer .result in
     let ys = c .before .before .convert-block .last .1 .1 .1 .1 .1 .1 .1 .0 in
-    let f = delivered (a .format) (a .peak) in
+    let f = delivered (a .format) (a .source) in
     let put = block-put f (a .src .now) (loop .dst) (a .dst .now) ys (loop .j) n (loop .inv .2) (c .before .before .convert-block .ensures) in
     let kept = c .before .before .convert-block .kept .1 .1 .1 .1 .1 .1 .1 .0 in
     let same = same-len-mid (6 * loop .j) (6 * loop .j + 6 * n - 6 * loop .j) (loop .dst) ys kept in
@@ -58,7 +58,7 @@ returns : tie.Need-returns Inv-loop μ-loop
 returns c =
     let a = c .before .before .before .before .args in
     let j : c .before .loop .j ≡ a .pixels = omega arith in
-    c .before .loop .inv .2 ∙ ap (λ (n : ℕ). spanBytes (delivered (a .format) (a .peak)) (a .src .now) 0 n ++ drop (6 * n) (a .dst .now)) j
+    c .before .loop .inv .2 ∙ ap (λ (n : ℕ). spanBytes (delivered (a .format) (a .source)) (a .src .now) 0 n ++ drop (6 * n) (a .dst .now)) j
 
 pub convert-blocks-spec : {M : Type 1} → statement M
 convert-blocks-spec =

@@ -20,10 +20,10 @@ convert-blocks-requires c κs =
 
 returns-2 : tie.Need-returns-2
 returns-2 c =
-    let a = c .before .before .before .before .before .before .before .before .before .before .before .before .before .before .before .before .args in
-    let peak = c .before .before .before .before .before .before .before .before .before .before .before .read-peak in
-    let f = delivered (a .format) (peak .result) in
-    rw (sym (peak .ensures)) (begun f (a .src .now) (a .dst .now) _ (omega arith) (c .before .before .convert-blocks .ensures))
+    let a = c .before .before .before .before .before .before .before .before .before .before .before .before .before .before .before .before .before .args in
+    let read = c .before .before .before .before .before .before .before .before .before .before .before .before .read-source in
+    let f = delivered (a .format) (read .result) in
+    rw (sym (read .ensures .0)) (begun f (a .src .now) (a .dst .now) _ (omega arith) (c .before .before .convert-blocks .ensures))
 
 pub convert-span-spec : {M : Type 1} → statement M
 convert-span-spec =

@@ -4,6 +4,7 @@ use Prim.Native.Nat.{ℕ, _≤_}
 use native.Mathlib.Omega.{arith}
 use borrow.Author.Needs.{needs}
 use Rattle.quantity.specs.Units.{units, thousand}
+use Rattle.quantity.specs.declared.Source.{Source}
 use Rattle.quantity.specs.Component.{Component, red, green, blue, Pixel}
 use Rattle.hlg.specs.Root.{IsRoot}
 use Rattle.pixel.specs.Conversion.{mapped}
@@ -17,8 +18,8 @@ unfolding units
 mapped-lights-requires c κs = c .before .before .before .before .fill-lights .ensures
 
 -- a mapped component is at most 1,000 cd/m2
-within : (peak : ℕ) (p : Pixel) (i : Component) {x : ℕ} → x ≡ mapped peak p i → x ≤ thousand
-within peak p i e = omega (arith, mapped-at-most peak p i)
+within : (source : Source) (p : Pixel) (i : Component) {x : ℕ} → x ≡ mapped source p i → x ≤ thousand
+within source p i e = omega (arith, mapped-at-most source p i)
 
 weigh-requires : tie.Need-weigh-requires
 weigh-requires c κs =
@@ -38,8 +39,8 @@ near-codes-requires c κs =
 returns : tie.Need-returns
 returns c =
     let m = c .before .before .before .before .before .before .mapped-lights .ensures in
-    let peak = c .before .before .before .before .before .before .before .before .before .before .before .before .before .read-peak .ensures in
-    rw (sym peak) (codes-are _ _ (m .0) (m .1) (m .2) (c .near-codes .ensures))
+    let read = c .before .before .before .before .before .before .before .before .before .before .before .before .before .before .read-source .ensures .0 in
+    rw (sym read) (codes-are _ _ (m .0) (m .1) (m .2) (c .near-codes .ensures))
 
 pub pixel-codes-spec : {M : Type 1} → statement M
 pixel-codes-spec =

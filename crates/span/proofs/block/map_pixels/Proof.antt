@@ -14,17 +14,17 @@ use Rattle.span.proofs.block.map_pixels.Statement.{statement}
 use Rattle.span.proofs.block.map_pixels.Tie as tie
 
 abbrev Inv-loop : tie.InvT-loop
-Inv-loop lights hints w peak src words₀ pixels last₀ j₀ words last j = (j ≤ pixels) × (length words ≡ 96) × MappedTo peak src words j
-    × HasMapped peak (last .red) (last .green) (last .blue) (last .mapped .red) (last .mapped .green) (last .mapped .blue)
+Inv-loop lights hints w source src words₀ pixels last₀ j₀ words last j = (j ≤ pixels) × (length words ≡ 96) × MappedTo source src words j
+    × HasMapped source (last .red) (last .green) (last .blue) (last .mapped .red) (last .mapped .green) (last .mapped .blue)
 
 abbrev μ-loop : tie.MeasureT-loop
-μ-loop lights hints w peak src words₀ pixels last₀ j₀ words last j = pixels - j
+μ-loop lights hints w source src words₀ pixels last₀ j₀ words last j = pixels - j
 
 loop-holds : tie.Need-loop-holds Inv-loop μ-loop
 loop-holds c =
     let start = c .before .before in
     let k = c .mapped-black .ensures in
-    (omega arith, start .pre .4, mapped-none _ _ _, black-mapped (start .args .peak) (k .0) (k .1) (k .2) (k .3) (k .4) (k .5))
+    (omega arith, start .pre .4, mapped-none _ _ _, black-mapped (start .args .source) (k .0) (k .1) (k .2) (k .3) (k .4) (k .5))
 
 map-next-requires : tie.Need-map-next-requires Inv-loop μ-loop
 map-next-requires c κs =

@@ -4,6 +4,7 @@ use Prim.Native.Nat.{ℕ, _*_, _-_, _≤_}
 use native.Mathlib.Omega.{arith}
 use borrow.Author.Needs.{needs}
 use Rattle.quantity.specs.Units.{thousand, tenThousand}
+use Rattle.quantity.specs.declared.Source.{Source}
 use Rattle.quantity.specs.Component.{Component, red, green, blue, Pixel, pixel}
 use Rattle.position.specs.Position.{codeRead, codeLight}
 use Rattle.position.proofs.LightLaws.{lent-code-light}
@@ -33,14 +34,14 @@ blue-light : (c : tie.After-code-position) → c .before .before .before .light-
 blue-light c = c .before .before .before .light-of-code-in3 .ensures ∙ lent-code-light (start c .args .lights .now) (taken c blue) (start c .pre .0)
 
 brightest-light : (c : tie.After-code-position) → c .before .before .brightest-of .result ≡ brightestLight (taken c)
-brightest-light c = brightest-light-is (start c .args .peak) (taken c) (red-light c) (green-light c) (blue-light c) (c .before .before .brightest-of .ensures)
+brightest-light c = brightest-light-is (start c .args .source) (taken c) (red-light c) (green-light c) (blue-light c) (c .before .before .brightest-of .ensures)
 
 brightest-position : (c : tie.After-code-position) → c .code-position .result .0 ≡ brightestPosition (taken c)
 unfolding brightestPosition
 brightest-position c = c .code-position .ensures ∙ ap (λ (d : ℕ). 1024 * (codeRead d - 64)) (c .before .brightest-of2 .ensures)
 
 -- what the brightest light is bent to
-bent-to : (c : tie.After-bent-light) → c .bent-light .result .0 ≡ bent (start (c .before) .args .peak) (taken (c .before))
+bent-to : (c : tie.After-bent-light) → c .bent-light .result .0 ≡ bent (start (c .before) .args .source) (taken (c .before))
 bent-to c =
     let s = start (c .before) in
     bent-is _ (taken (c .before)) (s .args .lights .now) (s .args .w .0) (s .pre .0) (s .pre .1)
@@ -49,19 +50,19 @@ bent-to c =
 returns : tie.Need-returns
 returns c =
     let d = c .before .before .before .before in
-    let peak = start d .args .peak in
+    let source = start d .args .source in
     let m1 = brightest-light d in
     let m2 = bent-to (c .before .before .before) in
     let same = c .if1 .taken in (
-      mapped-unbent peak (taken d) red (red-light d) m1 m2 same,
-      mapped-unbent peak (taken d) green (green-light d) m1 m2 same,
-      mapped-unbent peak (taken d) blue (blue-light d) m1 m2 same,
+      mapped-unbent source (taken d) red (red-light d) m1 m2 same,
+      mapped-unbent source (taken d) green (green-light d) m1 m2 same,
+      mapped-unbent source (taken d) blue (blue-light d) m1 m2 same,
     )
 
 -- what scaling asks of the light of a component
-room : (peak : ℕ) (p : Pixel) (i : Component) {C M N : ℕ} → C ≡ codeLight (p i) → M ≡ brightestLight p → N ≡ bent peak p
+room : (source : Source) (p : Pixel) (i : Component) {C M N : ℕ} → C ≡ codeLight (p i) → M ≡ brightestLight p → N ≡ bent source p
     → (C ≤ M) × (M ≤ tenThousand) × (N ≤ thousand)
-room peak p i eC eM eN = (omega (arith, component-le p i), omega (arith, brightest-light-at-most p), omega (arith, bent-at-most peak p))
+room source p i eC eM eN = (omega (arith, component-le p i), omega (arith, brightest-light-at-most p), omega (arith, bent-at-most source p))
 
 scaled-requires : tie.Need-scaled-requires
 scaled-requires c κs =
@@ -85,12 +86,12 @@ returns-2 : tie.Need-returns-2
 returns-2 c =
     let b = c .before .before .before .before .before .before .before .before in
     let d = b .before in
-    let peak = start d .args .peak in
+    let source = start d .args .source in
     let m1 = brightest-light d in
     let m2 = bent-to b in (
-      mapped-is peak (taken d) red (red-light d) m1 m2 (c .before .before .scaled .ensures),
-      mapped-is peak (taken d) green (green-light d) m1 m2 (c .before .scaled2 .ensures),
-      mapped-is peak (taken d) blue (blue-light d) m1 m2 (c .scaled3 .ensures),
+      mapped-is source (taken d) red (red-light d) m1 m2 (c .before .before .scaled .ensures),
+      mapped-is source (taken d) green (green-light d) m1 m2 (c .before .scaled2 .ensures),
+      mapped-is source (taken d) blue (blue-light d) m1 m2 (c .scaled3 .ensures),
     )
 
 pub mapped-lights-spec : {M : Type 1} → statement M
