@@ -1,5 +1,5 @@
--- The bent light of a pixel whose X is the signal of an index of the light table, enclosed: within the rounding of what it is mapped to where the
--- curve doesn't bend it, else within a ratio.
+-- The bent light of a pixel whose X is at a position, or between it and the next, enclosed: by what encloses the light there where the curve doesn't
+-- bend it, else within a ratio. Then of one whose X is the signal of an index of the light table.
 use mathlib.Core.Path.{_≡_, refl, _∙_, ap, subst}
 use mathlib.Core.Logic.{_⊎_, inl, inr}
 use Prim.Native.Nat.{ℕ, pred, min, _+_, _-_, _*_, _/_, _≤_, _<_}
@@ -21,7 +21,7 @@ use Rattle.position.proofs.PeakLaws.{thousand-position, peak-past}
 use Rattle.peaks.proofs.PeakSignals.{peak-between, thousand-low, thousand-high}
 use Rattle.eetf.specs.Curve.{kneeCurve, bentLight}
 use Rattle.eetf.proofs.SplineLaws.{curve, curve-stays, knee-curve-light}
-use Rattle.eetf.proofs.CurveLaws.{unbent, bent-by-curve, bent-le-self}
+use Rattle.eetf.proofs.CurveLaws.{unbent, bent-by-curve, bent-le-self, bent-le-thousand}
 use Rattle.exact.specs.ExactValue.{Value, Light, Given, Ends, BentSignal, BentLight}
 use Rattle.distance.proofs.FoundNumbers.{leastLight, ratioUnder, ratioOver, positionsOff, kneeHalves, thousandAt, leastBent}
 use Rattle.distance.proofs.NearLaws.{end, around, BentWithin}
@@ -105,94 +105,76 @@ module _ (peak : ℕ) (more : 1000 < peak) (most : peak ≤ 10000) where
     by-high G x l k a c =
         bent-by G high x (bentAt m + positionsOff) l a (bent-high ends thousandAt w stand far near m x (bentAt m + positionsOff) bends k (le-refl _)) c
 
--- ---- a pixel of lights x that gives G: X is the signal of the position m of an index, and the brightest light is that of X
-pub record Indexed (G : Given) (x : Pixel) (m : ℕ) : Type 0 where
-  pub k : ℕ
-  pub at : m ≡ 256 * k
-  pub some : 0 < k
-  pub range : k ≤ 3504
-  pub seen : 0 < G .level
-  pub lit : brightest x ≡ lightAt m
-  pub signal : (s : Side) → G .X s (positionSignal m)
-  pub own : (s : Side) (i : Component) → G .Own s i (around entries s (x i))
-  pub most : (s : Side) (l : Fraction) → Light s (positionSignal m) l → G .Most s l
+-- up to 1,000 cd/m2, or so many half positions below the knee, the curve leaves the light
+abbrev pub Left : (peak m : ℕ) → Type 0
+Left peak m = (peak ≤ 1000) ⊎ (2 * m + kneeHalves + positionOf (peak * units) ≤ 3 * thousandAt)
+
+pub left-is : (peak m : ℕ) → peak ≤ 10000 → Left peak m → bentLight peak (lightAt m) m ≡ min (lightAt m) thousand
+left-is peak m most c = go (decLe peak 1000) c
+  where
+    go : Dec (peak ≤ 1000) → Left peak m → bentLight peak (lightAt m) m ≡ min (lightAt m) thousand
+    go (yes h) c = unbent peak (lightAt m) m h
+    go (no h) (inl g) = absurd (h g)
+    go (no h) (inr g) = omega (arith, stays peak (omega arith) most m g, bent-le-thousand peak m)
+
+-- so many parts of a unit
+abbrev pub inParts : ℕ → Fraction
+inParts u = over u (entries .parts) (entries .pos)
 
 -- parts of units on both sides of the bent light, within a ratio of what the brightest light is mapped to
 pub record Enclosure (p q : ℕ) (G : Given) (peak m : ℕ) : Type 0 where
   pub b : Side → ℕ
-  pub lights : (s : Side) → BentLight G s peak (over (b s) (entries .parts) (entries .pos))
+  pub lights : (s : Side) → BentLight G s peak (inParts (b s))
   pub within : BentWithin entries p q (lightAt m) (bentLight peak (lightAt m) m) b
+
+pub thousand-ge : 1000 ≤ thousand
+unfolding thousand units
+thousand-ge = omega arith
 
 second-entry : lightEntry 1 ≡ leastLight
 unfolding lightEntry lightTable
 second-entry = refl
 
-thousand-ge : leastLight ≤ thousand
-unfolding thousand units
-thousand-ge = omega arith
+-- ---- a pixel that gives G: its brightest light is that of X, whose fractions x are the position m, the next, or between them
+pub record Placed (G : Given) (m : ℕ) : Type 0 where
+  pub x : Side → ℕ
+  pub from : m ≤ x low
+  pub to : (s : Side) → x s ≤ m + 1
+  pub signal : (s : Side) → G .X s (positionSignal (x s))
+  pub most : (s : Side) (l : Fraction) → Light s (positionSignal (x s)) l → G .Most s l
 
-module _ {G : Given} {x : Pixel} {m : ℕ} (I : Indexed G x m) (peak : ℕ) (most : peak ≤ 10000) where
+module _ {G : Given} {m : ℕ} (P : Placed G m) (peak : ℕ) (most : peak ≤ 10000) where
   abbrev n : ℕ
   n = bentLight peak (lightAt m) m
 
-  at-entry : lightAt m ≡ lightEntry (I .k)
-  at-entry = ap lightAt (I .at) ∙ light-at-entry (I .k)
-
-  pub lit-light : leastLight ≤ lightAt m
-  lit-light = omega (arith, at-entry, second-entry, entries-grow 1 (I .k) (I .some))
-
-  -- the light of X
-  pub own-light : (s : Side) (l : Fraction) → Bounds s l (around entries s (lightAt m)) → Light s (positionSignal m) l
-  own-light low l c =
-      light-low (I .k) l (I .some) (I .range) (record { cross = omega (arith, I .at) }) (subst (λ e. l ≼ around entries low e) at-entry (record { cross = c }))
-  own-light high l c =
-      light-high (I .k) l (I .range) (record { cross = omega (arith, I .at) }) (subst (λ e. around entries high e ≼ l) at-entry (record { cross = c }))
-
-  -- a peak up to 1,000: n is the brightest light, cut at 1,000 cd/m2
-  up-to-thousand : peak ≤ 1000 → Enclosure 1 1 G peak m
+  -- where ends e enclose every light, and those of the light at m the light of X, those of n enclose the bent light
+  pub left-lights : (e : Side → ℕ → ℕ) → ((u v : ℕ) → u ≤ v → e low u ≤ e low v)
+      → ((u : ℕ) → (e low u ≤ entries .parts * u) × (entries .parts * u ≤ e high u))
+      → ((s : Side) (l : Fraction) → Bounds s l (inParts (e s (lightAt m))) → Light s (positionSignal (P .x s)) l)
+      → Left peak m → (s : Side) → BentLight G s peak (inParts (e s n))
   unfolding BentLight
-  up-to-thousand h = record { b = λ s. end entries s n; lights = side; within = within }
+  left-lights e grows encloses own c = go (decLe peak 1000) c
     where
-      is : n ≡ min (lightAt m) thousand
-      is = unbent peak (lightAt m) m h
+      up-to : peak ≤ 1000 → n ≡ min (lightAt m) thousand → (s : Side) → Dec (thousand ≤ lightAt m) → BentLight G s peak (inParts (e s n))
+      up-to h is low d =
+          inl (h, (omega (arith, is, encloses n), P .most low (inParts (e low n)) (own low _ (omega (arith, grows n (lightAt m) (omega (arith, is)))))))
+      up-to h is high (yes g) = inl (h, inl (omega (arith, is, encloses n)))
+      up-to h is high (no g) =
+          let same : n ≡ lightAt m = omega (arith, is) in
+          let reaches : Bounds high (inParts (e high n)) (inParts (e high (lightAt m))) = rw same (at-refl high _) in
+          inl (h, inr (P .most high (inParts (e high n)) (own high _ reaches)))
 
-      top : Dec (thousand ≤ lightAt m) → BentLight G high peak (around entries high n)
-      top (yes g) = inl (h, inl (omega (arith, is)))
-      top (no g) = inl (h, inr (I .most high (around entries high n) (own-light high (around entries high n) (omega (arith, is)))))
-
-      side : (s : Side) → BentLight G s peak (around entries s n)
-      side low = inl (h, (omega (arith, is), I .most low (around entries low n) (own-light low (around entries low n) (omega (arith, is)))))
-      side high = top (decLe thousand (lightAt m))
-
-      within : BentWithin entries 1 1 (lightAt m) n (λ s. end entries s n)
-      within = record { lower = le-refl _; upper = le-refl _; bent = omega (arith, is); seen = omega (arith, is, lit-light, thousand-ge) }
-
-  -- so many half positions below the knee: the light of X
-  below-knee : (above : 1000 < peak) → 2 * m + kneeHalves + positionOf (peak * units) ≤ 3 * thousandAt → Enclosure 1 1 G peak m
-  below-knee above h = record { b = λ s. end entries s (lightAt m); lights = side; within = within }
-    where
-      is : n ≡ lightAt m
-      is = stays peak above most m h
-
-      side : (s : Side) → BentLight G s peak (around entries s (lightAt m))
-      side s =
-          by-self peak above most G s m m (around entries s (lightAt m)) h (omega arith) (I .signal s)
-          (own-light s (around entries s (lightAt m)) (at-refl s _))
-
-      within : BentWithin entries 1 1 (lightAt m) n (λ s. end entries s (lightAt m))
-      within = record { lower = omega (arith, is); upper = omega (arith, is); bent = omega (arith, is); seen = omega (arith, is, lit-light) }
-
-  pub left : (peak ≤ 1000) ⊎ (2 * m + kneeHalves + positionOf (peak * units) ≤ 3 * thousandAt) → Enclosure 1 1 G peak m
-  left (inl h) = up-to-thousand h
-  left (inr g) = go (decLe peak 1000)
-    where
-      go : Dec (peak ≤ 1000) → Enclosure 1 1 G peak m
-      go (yes h) = up-to-thousand h
-      go (no h) = below-knee (omega arith) g
+      go : Dec (peak ≤ 1000) → Left peak m → (s : Side) → BentLight G s peak (inParts (e s n))
+      go (yes h) d s = up-to h (left-is peak m most c) s (decLe thousand (lightAt m))
+      go (no h) (inl g) s = absurd (h g)
+      go (no h) (inr g) s =
+          let above : 1000 < peak = omega arith in
+          by-self peak above most G s m (P .x s) (inParts (e s n)) g (P .to s) (P .signal s)
+          (own s _ (subst (λ l. Bounds s (inParts (e s n)) (inParts (e s l))) (stays peak above most m g) (at-refl s _)))
 
   -- from there on the curve's light, by entries of the table so many positions and a cell away; s is the bent position
-  pub on-curve : 1000 < peak → 3 * thousandAt < 2 * m + kneeHalves + positionOf (peak * units) → Enclosure ratioUnder ratioOver G peak m
-  on-curve above h = record { b = b; lights = side; within = record { lower = lower; upper = upper; bent = bent-le-self peak m; seen = seen } }
+  pub curve-lights : 1000 < peak → 3 * thousandAt < 2 * m + kneeHalves + positionOf (peak * units) → Enclosure ratioUnder ratioOver G peak m
+  curve-lights above h = record { b = b; lights = side; within = record { lower = lower; upper = upper; bent = bent-le-self peak m; seen = seen } }
     where
       s : ℕ
       s = bentAt peak above most m
@@ -213,12 +195,12 @@ module _ {G : Given} {x : Pixel} {m : ℕ} (I : Indexed G x m) (peak : ℕ) (mos
       b low = end entries low (lightEntry j)
       b high = end entries high (lightEntry (i + 1))
 
-      side : (e : Side) → BentLight G e peak (over (b e) (entries .parts) (entries .pos))
+      side : (e : Side) → BentLight G e peak (inParts (b e))
       side low =
-          by-low peak above most m h G m _ (le-refl m) (I .signal low)
+          by-low peak above most m h G (P .x low) _ (P .from) (P .signal low)
           (light-low j _ (omega (arith, r)) (omega (arith, r)) (record { cross = omega arith }) (record { cross = le-refl _ }))
       side high =
-          by-high peak above most m h G m _ (omega arith) (I .signal high)
+          by-high peak above most m h G (P .x high) _ (P .to high) (P .signal high)
           (light-high (i + 1) _ (omega (arith, r)) (record { cross = omega arith }) (record { cross = le-refl _ }))
 
       lower : ratioUnder * end entries low n ≤ ratioOver * end entries low (lightEntry j)
@@ -229,3 +211,44 @@ module _ {G : Given} {x : Pixel} {m : ℕ} (I : Indexed G x m) (peak : ℕ) (mos
 
       seen : leastLight ≤ n
       seen = omega (arith, is, light-grows (256 * 1) s (omega (arith, r)), light-at-entry 1, second-entry)
+
+-- ---- a pixel of lights x that gives G: X is the signal of the position m of an index, and the brightest light is that of X
+pub record Indexed (G : Given) (x : Pixel) (m : ℕ) : Type 0 where
+  pub k : ℕ
+  pub at : m ≡ 256 * k
+  pub some : 0 < k
+  pub range : k ≤ 3504
+  pub seen : 0 < G .level
+  pub lit : brightest x ≡ lightAt m
+  pub signal : (s : Side) → G .X s (positionSignal m)
+  pub own : (s : Side) (i : Component) → G .Own s i (around entries s (x i))
+  pub most : (s : Side) (l : Fraction) → Light s (positionSignal m) l → G .Most s l
+
+module _ {G : Given} {x : Pixel} {m : ℕ} (I : Indexed G x m) (peak : ℕ) (most : peak ≤ 10000) where
+  abbrev placed : Placed G m
+  placed = record { x = λ s. m; from = le-refl m; to = λ s. omega arith; signal = I .signal; most = I .most }
+
+  at-entry : lightAt m ≡ lightEntry (I .k)
+  at-entry = ap lightAt (I .at) ∙ light-at-entry (I .k)
+
+  pub lit-light : leastLight ≤ lightAt m
+  lit-light = omega (arith, at-entry, second-entry, entries-grow 1 (I .k) (I .some))
+
+  -- the light of X
+  pub own-light : (s : Side) (l : Fraction) → Bounds s l (around entries s (lightAt m)) → Light s (positionSignal m) l
+  own-light low l c =
+      light-low (I .k) l (I .some) (I .range) (record { cross = omega (arith, I .at) }) (subst (λ e. l ≼ around entries low e) at-entry (record { cross = c }))
+  own-light high l c =
+      light-high (I .k) l (I .range) (record { cross = omega (arith, I .at) }) (subst (λ e. around entries high e ≼ l) at-entry (record { cross = c }))
+
+  pub left : Left peak m → Enclosure 1 1 G peak m
+  left c =
+      let seen : leastLight ≤ bentLight peak (lightAt m) m = omega (arith, left-is peak m most c, lit-light, thousand-ge) in
+      record {
+        b = λ s. end entries s (bentLight peak (lightAt m) m);
+        lights = left-lights placed peak most (end entries) (λ u v h. omega arith) (λ u. (omega arith, omega arith)) own-light c;
+        within = record { lower = le-refl _; upper = le-refl _; bent = bent-le-self peak m; seen = seen };
+      }
+
+  pub on-curve : 1000 < peak → 3 * thousandAt < 2 * m + kneeHalves + positionOf (peak * units) → Enclosure ratioUnder ratioOver G peak m
+  on-curve = curve-lights placed peak most

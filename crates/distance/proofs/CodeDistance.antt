@@ -129,34 +129,40 @@ nine-sixteenths p q u l up down above below fits-up fits-down d from to low = go
           inside = omega arith;
         }
 
--- one and a half codes either side, where a ratio and the room fit between neighbouring steps
-pub less-than-two : (p q u l : ℕ) → T (everyPair (ratio p q u l) stepTable) → (d : ℕ) → 64 ≤ d → d ≤ 1015 → Ending p q u l d (LessThan 2 d)
+-- one and a half codes either side, where a ratio and the room fit from the next step to the one after it, and from a step to the one before
+pub one-and-a-half : (p q u l d : ℕ) → 64 ≤ d → d ≤ 1015 → Fits p q u l d high (step (d + 2) - 1) → (65 < d → Fits p q u l d low (step (d - 1)))
+    → Ending p q u l d (LessThan 2 d)
 unfolding none
-less-than-two p q u l test d from to high =
-    let next : d + 1 + 1 ≡ d + 2 = omega arith in
+one-and-a-half p q u l d from to above below high =
     record {
       e = step (d + 2) - 1;
-      fits =
-          subst (λ c. q * q ^ 6 * (step (d + 1) + u) ^ 6 ≤ p * p ^ 6 * (step c - 1) ^ 6) next
-          (between-steps p q u l test (d + 1) (omega arith) (omega arith) .0);
+      fits = above;
       g = thresholdSignal (d + 2);
       signal = step-signal-high (d + 2) (omega arith) (omega arith);
       inside = omega arith;
     }
-less-than-two p q u l test d from to low = go (decLe d 65)
+one-and-a-half p q u l d from to above below low = go (decLe d 65)
   where
-    between : 65 < d → q * q ^ 6 * step (d - 1) ^ 6 ≤ p * p ^ 6 * (step d - l) ^ 6
-    between k =
-        let next : d - 1 + 1 ≡ d = omega arith in
-        subst (λ c. q * q ^ 6 * step (d - 1) ^ 6 ≤ p * p ^ 6 * (step c - l) ^ 6) next (between-steps p q u l test (d - 1) (omega arith) (omega arith) .1)
-
     go : Dec (d ≤ 65) → Endpoint low (Fits p q u l d low) (LessThan 2 d)
     go (yes k) = none-below (inl refl) (omega arith)
     go (no k) =
         record {
           e = step (d - 1);
-          fits = inr (omega arith, between (omega arith));
+          fits = below (omega arith);
           g = thresholdSignal (d - 1);
           signal = step-signal-low (d - 1) (omega arith) (omega arith);
           inside = omega arith;
         }
+
+-- which was tested between all neighbouring steps
+pub less-than-two : (p q u l : ℕ) → T (everyPair (ratio p q u l) stepTable) → (d : ℕ) → 64 ≤ d → d ≤ 1015 → Ending p q u l d (LessThan 2 d)
+less-than-two p q u l test d from to =
+    let next : d + 1 + 1 ≡ d + 2 = omega arith in
+    let above = between-steps p q u l test (d + 1) (omega arith) (omega arith) .0 in
+    one-and-a-half p q u l d from to (subst (λ c. q * q ^ 6 * (step (d + 1) + u) ^ 6 ≤ p * p ^ 6 * (step c - 1) ^ 6) next above) below
+  where
+    below : 65 < d → Fits p q u l d low (step (d - 1))
+    below k =
+        let next : d - 1 + 1 ≡ d = omega arith in
+        let fits = between-steps p q u l test (d - 1) (omega arith) (omega arith) .1 in
+        inr (omega arith, subst (λ c. q * q ^ 6 * step (d - 1) ^ 6 ≤ p * p ^ 6 * (step c - l) ^ 6) next fits)

@@ -109,6 +109,16 @@ mapped-le {x} {n} {m} {r} h a f = le-of-mul-le-mul-right {k = m} (omega (arith, 
 pub brightest-ge : {x n m r : ℕ} → 0 < m → x ≡ m → Floor x n m r → n ≤ r
 brightest-ge {x} {n} {m} {r} h e f = let k : n < r + 1 = lt-of-mul-lt-mul-right m (omega (arith, f .above, ap (λ t. t * n) e)) in omega arith
 
+-- a component's part of the luminance is 593 ten-thousandths of it or more
+pub part-le : (r : Pixel) (i : Component) → 593 * r i ≤ weighted r
+part-le r red = omega arith
+part-le r green = omega arith
+part-le r blue = omega arith
+
+-- so the luminance has that part of the bent light
+pub luminance-ge : {m n : ℕ} {x r : Pixel} → 0 < m → Mapped m n x r → 593 * n ≤ weighted r
+luminance-ge {r = r} h P = let top = P .brightest in omega (arith, part-le r (top .0), brightest-ge h (top .1) (P .floors (top .0)))
+
 -- ---- the results of a pixel from lights x enclosed so
 abbrev pub numerators : Rounding → Pixel → (Side → ℕ) → Side → Pixel
 numerators R x b s i = end R s (x i) * b s
@@ -123,13 +133,8 @@ module _ (R : Rounding) {p q m n : ℕ} {b : Side → ℕ} {x r : Pixel} (B : Be
   under : (i : Component) → r i ≤ n
   under i = mapped-le brightest-pos (P .inside i) (P .floors i)
 
-  own : (i : Component) → 593 * r i ≤ weighted r
-  own red = omega arith
-  own green = omega arith
-  own blue = omega arith
-
   pub least : leastLuminance ≤ weighted r
-  least = let top = P .brightest in omega (arith, own (top .0), brightest-ge brightest-pos (top .1) (P .floors (top .0)), B .seen)
+  least = omega (arith, luminance-ge brightest-pos P, B .seen)
 
   pub end-pos : (s : Side) → 0 < end R s m
   end-pos low = let two : 2 ≤ m = omega (arith, B .seen, B .bent) in omega (arith, mul-le-mul-left (R .parts) two, R .narrow, R .pos)
@@ -173,5 +178,5 @@ module _ (R : Rounding) {p q m n : ℕ} {b : Side → ℕ} {x r : Pixel} (B : Be
             subst (λ t. p * t ≤ q * (denominators R m high * (weighted r + luminanceAbove))) (sum high)
             (sum-up R p q m n 10000 (weighted x) (weighted r) three (B .bent) light (b high) (end R low m) (ends high) (B .upper) heavy (from m) (omega arith)
             (omega (arith, f red .above, f green .above, f blue .above)));
-        part = own i;
+        part = part-le r i;
       }

@@ -51,19 +51,25 @@ module _ {G : Given} {peak : ℕ} {n : Side → Pixel} {d : Side → ℕ} (F : R
         ),
       )
 
-  -- a component near its mapped number, at most 1,000 cd/m2, is enclosed by what its code's bound asks
+  -- a component near its mapped number is enclosed by what a bound asks at its code
+  pub at-code : {s g s' h y u l p q : ℕ} {r : Pixel} {i : Component} {Inside : Fraction → Type 0} → Room s g s' h y u l
+      → Near s g s' h p q n d r i → y ≤ weighted r → 0 < p → 0 < q → hlgCode (weighted r) (r i) ≤ 1015
+      → Ending p q u l (hlgCode (weighted r) (r i)) Inside → Enclosed G peak i Inside
+  at-code {r = r} {i = i} R N enough pp pq top E =
+      record {
+        fraction = λ s. E s .g;
+        signals = λ s. signal-of s i (E s .e) (E s .g) (ending-scene R N enough pp pq (code-is (weighted r) (r i)) top s (E s .e) (E s .fits)) (E s .signal);
+        inside = λ s. E s .inside;
+      }
+
+  -- and at most 1,000 cd/m2, by what it asks at every code that this reaches
   pub within : {s g s' h y u l p q : ℕ} {r : Pixel} {i : Component} {Inside : ℕ → Fraction → Type 0} → Room s g s' h y u l
       → Near s g s' h p q n d r i → y ≤ weighted r → 0 < p → 0 < q → r i ≤ thousand
       → ((c : ℕ) → 64 ≤ c → c ≤ 1015 → Ending p q u l c (Inside c)) → Enclosed G peak i (Inside (hlgCode (weighted r) (r i)))
   within {r = r} {i = i} R N enough pp pq most endings =
       let c = code-is (weighted r) (r i) in
       let top : hlgCode (weighted r) (r i) ≤ 1015 = omega (arith, code-below 1016 (lit≤ tt) (N .part) most past-thousand c) in
-      let E = endings (hlgCode (weighted r) (r i)) (c .low) top in
-      record {
-        fraction = λ s. E s .g;
-        signals = λ s. signal-of s i (E s .e) (E s .g) (ending-scene R N enough pp pq c top s (E s .e) (E s .fits)) (E s .signal);
-        inside = λ s. E s .inside;
-      }
+      at-code R N enough pp pq top (endings (hlgCode (weighted r) (r i)) (c .low) top)
 
 cancel : (s : Side) (o t e z : ℕ) → At s (o * t * e * (z * z)) (o * t * (z * e * z))
 cancel s o t e z = subst (λ k. At s k (o * t * (z * e * z))) (omega arith) (at-refl s (o * t * (z * e * z)))

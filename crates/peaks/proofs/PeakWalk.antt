@@ -1,19 +1,18 @@
 -- The walk over a part of the light table and its hints, as a fact at each peak it passes; such parts are joined.
-use mathlib.Core.Path.{_≡_, refl, sym, ap, _∙_, subst}
+use mathlib.Core.Path.{_≡_, sym, ap, _∙_, subst}
 use mathlib.Core.Bool.{Bool, false}
 use mathlib.Core.List.{List, [], _∷_}
-use Prim.Native.Nat.{ℕ, suc, pred, min, _+_, _*_, _-_, _^_, _≤_, _<_}
+use Prim.Native.Nat.{ℕ, suc, pred, _+_, _*_, _-_, _^_, _≤_, _<_}
 use native.Mathlib.Nat.{add-zero}
 use native.Mathlib.Decide.{decLe}
 use native.Mathlib.Omega.{arith}
 use lib.Dec.{T}
-use lib.ListN.{length, getD, take, drop, length-take, length-drop}
-use lib.Seq.{getD-take, getD-drop}
+use lib.ListN.{length, getD, take, drop}
 use Rattle.quantity.specs.Units.{units}
 use Rattle.pq.specs.LightTable.{lightTable, lightEntry}
 use Rattle.position.specs.Position.{positionOf}
 use Rattle.pq.proofs.TableHints.{hints}
-use Rattle.pq.proofs.EntryLaws.{table-length}
+use Rattle.pq.proofs.EntryLaws.{part-at}
 use Rattle.pq.proofs.PqTests.{Hint, hint}
 use Rattle.peaks.proofs.PeakTests.{walk, walk→, Found, Between}
 use Rattle.position.proofs.PositionLaws.{in-cell}
@@ -30,13 +29,6 @@ start→ f e k m [] hs t h i l r = absurd t
 start→ f e k m (p ∷ ps) [] t h i l r = absurd t
 start→ f e k m (p ∷ ps) (hint a b j ∷ hs) t h i l r =
     walk→ f e k m p (a * 2 ^ (64 - b)) j ps hs t (h 0 (omega arith) ∙ ap f (add-zero k)) (λ d s. h (suc d) (omega arith) ∙ ap f (omega arith)) i l r
-
-part-at : (k c i : ℕ) → i < length (take c (drop k lightTable)) → getD (take c (drop k lightTable)) i 0 ≡ lightEntry (k + i)
-unfolding lightEntry
-part-at k c i h =
-    let n : length (take c (drop k lightTable)) ≡ min c (length lightTable - k) = simp (length-take, length-drop) in
-    let e : min (k + i) 3504 ≡ k + i = omega (arith, table-length) in
-    getD-take c (drop k lightTable) i 0 (omega arith) ∙ getD-drop k lightTable i 0 ∙ ap (λ (x : ℕ). getD lightTable x 0) (sym e)
 
 -- the peaks from m to e - 1, tested over c cells from k on
 abbrev pub Peaks : ℕ → ℕ → Type 0

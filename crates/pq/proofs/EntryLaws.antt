@@ -1,11 +1,12 @@
 -- The entries of the light table: each obeys the rule, the rule leaves no choice, the entries grow, and the two ends.
-use mathlib.Core.Path.{_≡_, refl, sym, ap, subst}
+use mathlib.Core.Path.{_≡_, refl, sym, ap, subst, _∙_}
 use mathlib.Core.List.{List}
-use Prim.Native.Nat.{ℕ, zero, suc, min, _+_, _≤_, _<_, zero-le}
+use Prim.Native.Nat.{ℕ, zero, suc, min, _+_, _-_, _≤_, _<_, zero-le}
 use native.Mathlib.Nat.{le-refl, le-trans, le-of-eq, le-antisymm, not-suc-le-zero, zero-lt-suc}
 use native.Mathlib.Numerals.{one-add}
 use native.Mathlib.Omega.{arith}
-use lib.ListN.{length, getD, drop}
+use lib.ListN.{length, getD, take, drop, length-take, length-drop}
+use lib.Seq.{getD-take, getD-drop}
 use Rattle.laws.proofs.ComputedTests.{at-hinted, rises}
 use Rattle.quantity.specs.Units.{units, tenThousand}
 use Rattle.pq.specs.Pq.{ValueAtMost, ValueAbove, indexSignal, entryIn, lowerEnd, upperEnd, IsEntry}
@@ -50,6 +51,14 @@ entry-rule k = rule (min k 3504) (rw table-length (omega arith))
 pub entry-read : (t : List ℕ) (k : ℕ) → t ≡ lightTable → entryIn t k ≡ lightEntry k
 unfolding lightEntry
 entry-read t k h = ap (λ u. entryIn u k) h
+
+-- and of c of its entries from k on
+pub part-at : (k c i : ℕ) → i < length (take c (drop k lightTable)) → getD (take c (drop k lightTable)) i 0 ≡ lightEntry (k + i)
+unfolding lightEntry
+part-at k c i h =
+    let n : length (take c (drop k lightTable)) ≡ min c (length lightTable - k) = simp (length-take, length-drop) in
+    let e : min (k + i) 3504 ≡ k + i = omega (arith, table-length) in
+    getD-take c (drop k lightTable) i 0 (omega arith) ∙ getD-drop k lightTable i 0 ∙ ap (λ (x : ℕ). getD lightTable x 0) (sym e)
 
 -- ---- what the rule alone gives
 pub rule-grows : (i j p q : ℕ) → i ≤ j → IsEntry i p → IsEntry j q → p ≤ q
