@@ -6,6 +6,7 @@ ghost use lib.ListN.{length};
 ghost use Rattle.rows.specs.Row.{sampleAt};
 ghost use Rattle.rows.specs.Answer.{outside, firstRefused, lengthRefused, spanRefused, spanAnswer};
 use big_endian::number_at;
+use std::num::wrapping_sub_u64;
 
 // A span that was converted, or a refusal: its number and its place.
 pub enum RowAnswer {
@@ -78,14 +79,14 @@ pub fn first_refused(row: &[u8], from: usize, to: usize, least: u64, most: u64) 
     i
 }
 
-// Test 9 of one sample.
+// Test 9 of one sample. A difference that wraps round is past every range, so one comparison serves both ends.
 pub fn is_outside(d: u64, least: u64, most: u64) -> bool
     ensures { λ r. ⌜ r ≡ outside least most d ⌝ }
 {
-    if d < least {
+    if most < least {
         return true;
     }
-    most < d
+    most - least < wrapping_sub_u64(d, least)
 }
 
 // Sample i of a row; a byte past the end counts as 0.
