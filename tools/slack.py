@@ -1,21 +1,24 @@
 #!/usr/bin/env python3
-"""The room that the found numbers of demand 3's proof have: crates/distance/proofs/FoundNumbers.antt against the stored tables.
+"""The room that the found numbers of demand 3's proof have: FoundNumbers.antt of crates/distance and crates/full_range against the stored tables.
 
     python3 tools/slack.py            each number, the least and the most that would do beside the others, and what they come from
     python3 tools/slack.py --check    the same in silence, unless a number is out of its room
 
 A law or a computed test of the proofs shows each number; nothing rests on this program. It says where a new table, a new bound
-or another depth leaves room, before a proof is tried. Whole numbers, but for the exponential, which has 60 decimals.
+or another depth leaves room, before a proof is tried. Whole numbers, but for the exponential and the PQ formula, which have 60 decimals.
 """
 import re
 import sys
 from decimal import Decimal, getcontext
 from pathlib import Path
 
+sys.path.insert(0, str(Path(__file__).resolve().parent))
+import light_table
+
 ROOT = Path(__file__).resolve().parent.parent
 PROOFS = ROOT / "crates/distance/proofs"
 getcontext().prec = 60
-UNITS, CELL = 2**24, 256
+UNITS, CELL, LAST = 2**24, 256, 897024
 C, K = 2**109, 48828125                  # the HLG comparison without its common factor: hlg/proofs/CancelledLaws
 BLUE, WEIGHTS = 593, 10000               # the least weight of the luminance, and the sum of the three
 A, B, C_HLG = Decimal("0.17883277"), Decimal("0.28466892"), Decimal("0.55991073")
@@ -24,8 +27,9 @@ A, B, C_HLG = Decimal("0.17883277"), Decimal("0.28466892"), Decimal("0.55991073"
 def numbers():
     """The found numbers by name; one is given by another."""
     found = {}
-    for name, value in re.findall(r"^(\w+) = (.+)$", (PROOFS / "FoundNumbers.antt").read_text(encoding="utf-8"), re.M):
-        found[name] = eval(value, {}, found)
+    for folder in (PROOFS, ROOT / "crates/full_range/proofs"):
+        for name, value in re.findall(r"^(\w+) = (.+)$", (folder / "FoundNumbers.antt").read_text(encoding="utf-8"), re.M):
+            found[name] = eval(value, {}, found)
     return found
 
 
@@ -42,6 +46,10 @@ def table(path):
 
 
 N = numbers()
+# the numbers of full range under the names of those that take their place
+FULL = {name: N["full" + name[0].upper() + name[1:]] for name in (
+    "resultAbove", "resultBelow", "luminanceBelow", "luminanceAbove", "slopeAbove", "slopeBelow", "roomAbove", "roomBelow", "ratioUnder", "ratioOver")}
+FULL["leastLuminance"] = N["litLuminance"]
 PARTS, BELOW, ABOVE = rounding()
 LIGHTS = table("crates/pq/specs/LightTable.antt")
 STEPS = table("crates/hlg_steps/specs/StepTable.antt")
@@ -78,10 +86,10 @@ def most(holds, low, high=10**9):
     return low
 
 
-# ---- the tests of StepTests, with some of their numbers changed
+# ---- the tests of StepTests, of narrow or full range's numbers with some of them changed
 
-def add_high(**other):
-    n = {**N, **other}
+def add_high(base=N, **other):
+    n = {**base, **other}
     s, g, v, u = n["resultAbove"], n["luminanceBelow"], n["slopeAbove"], n["roomAbove"]
 
     def one(t):
@@ -90,8 +98,8 @@ def add_high(**other):
     return s * v <= u and all(map(one, STEPS))
 
 
-def add_low(**other):
-    n = {**N, **other}
+def add_low(base=N, **other):
+    n = {**base, **other}
     s, h, v, l = n["resultBelow"], n["luminanceAbove"], n["slopeBelow"], n["roomBelow"]
 
     def one(t):
@@ -100,18 +108,18 @@ def add_low(**other):
     return all(map(one, STEPS))
 
 
-def slope_above(**other):
-    n = {**N, **other}
+def slope_above(base=N, **other):
+    n = {**base, **other}
     return C <= n["slopeAbove"] ** 6 * K * max(n["leastLuminance"] - n["luminanceBelow"], 0)
 
 
-def slope_below(**other):
-    n = {**N, **other}
+def slope_below(base=N, **other):
+    n = {**base, **other}
     return C <= n["slopeBelow"] ** 6 * K * n["leastLuminance"]
 
 
-def between_steps(p, q, **other):
-    n = {**N, **other}
+def between_steps(p, q, base=N, **other):
+    n = {**base, **other}
     u, l = n["roomAbove"], n["roomBelow"]
     return all(q**7 * (x + u) ** 6 <= p**7 * (y - 1) ** 6 and q**7 * x**6 <= p**7 * max(y - l, 0) ** 6 for x, y in zip(STEPS, STEPS[1:]))
 
@@ -162,6 +170,74 @@ def bent():
     return off, lowest
 
 
+# ---- full range: the light at the position of every code of both depths, and what its enclosure takes
+
+def full_lights():
+    """The engine's light, and the formula's at the position and at the next."""
+    def formula(q):
+        return light_table.TEN_THOUSAND * light_table.signal_w(Decimal(q) / CELL) ** (Decimal(8192) / 1305)
+    positions = {LAST * n // top for top in (1023, 4095) for n in range(1, top + 1)}
+    return [(light_at(q), formula(q), formula(q + 1)) for q in positions]
+
+
+def encloses(lights, **other):
+    n = {**N, **other}
+    part, below, above = n["lightPart"], n["unitsBelow"], n["unitsAbove"]
+    return part > 0 and all(l - l // part - below <= low and high <= l + l // part + above for l, low, high in lights)
+
+
+def units_fit(**other):
+    """`sum-up` and `sum-lo` of FullRangeNear: the units off lights take 43/2 of the weights above, and 25 below."""
+    n = {**N, **other}
+    off, above = n["unitsBelow"] + 1, n["unitsAbove"]
+    k = n["litLight"] - off
+    return 2 * ((off + 1 + 2 * above) * k + off**2 + off - 1 + 2 * off * above + above**2) <= 43 * k and 2 * off + above <= 25
+
+
+def ratios_fit(p, part):
+    """The curve's ratio and the parts of three lights are less than (p + 1) / p."""
+    return part > 1 and p * (part + 1) * N["ratioOver"] <= (p + 1) * (part - 1) * N["ratioUnder"]
+
+
+def dim_fits(ratio, first):
+    """A light of a dim pixel lies within the ratio of its ends, the first most of all; and narrow range's slope serves."""
+    below, above = N["unitsBelow"], N["unitsAbove"]
+    return first > below and slope_above(leastLuminance=BLUE * first, luminanceBelow=0) and all(
+        (first + above) * (m + above) <= ratio * (m - below) * first and first * (m + above) <= ratio * (first - below) * (m - below)
+        for m in range(first, N["dimLight"] + 1))
+
+
+def full_rows():
+    lights = full_lights()
+    first, third, fourth = (light_at(LAST * n // 4095) for n in (1, 3, 4))
+    p, part = FULL["ratioUnder"], N["lightPart"]
+    yield "lightPart", least(lambda n: ratios_fit(p, n), 10**6), most(lambda n: encloses(lights, lightPart=n), 1), "ratio of full range; codes"
+    yield "unitsBelow", least(lambda n: encloses(lights, unitsBelow=n), 100), most(lambda n: units_fit(unitsBelow=n), 0), "codes; units off a result"
+    yield "unitsAbove", least(lambda n: encloses(lights, unitsAbove=n), 100), most(lambda n: units_fit(unitsAbove=n), 0), "codes; units off a result"
+    yield "firstLight", least(lambda n: dim_fits(N["dimRatio"], n), 100), first, "ratio and slope of dim lights; first code of twelve bits"
+    yield "dimLight", third, most(lambda n: C * n**5 < STEPS[1] ** 6 * K * BLUE, 0), "third code; step of code 66"
+    yield "litLight", least(lambda n: n > 10 and units_fit(litLight=n), 10**6), fourth, "units off a result; fourth code"
+    yield ("litLuminance", least(lambda y: slope_above(FULL, leastLuminance=y) and slope_below(FULL, leastLuminance=y), 10**6), BLUE * fourth,
+           "slopes; fourth code")
+    yield "fullResultAbove", 22, most(lambda s: add_high(FULL, resultAbove=s), 0), "`sum-up`, 43/2; room above"
+    yield "fullResultBelow", 25, most(lambda s: add_low(FULL, resultBelow=s), 0), "`sum-lo`; room below"
+    yield ("fullLuminanceBelow", 25 * WEIGHTS, most(lambda g: add_high(FULL, luminanceBelow=g) and slope_above(FULL, luminanceBelow=g), 0),
+           "`sum-lo`; slope, room above")
+    yield "fullLuminanceAbove", 43 * WEIGHTS // 2, most(lambda h: add_low(FULL, luminanceAbove=h), 0), "`sum-up`; room below"
+    yield ("fullSlopeAbove", least(lambda v: slope_above(FULL, slopeAbove=v), 10**6), most(lambda v: add_high(FULL, slopeAbove=v), 0),
+           "least luminance; room above")
+    yield ("fullSlopeBelow", least(lambda v: slope_below(FULL, slopeBelow=v), 10**6), most(lambda v: add_low(FULL, slopeBelow=v), 0),
+           "least luminance; room below")
+    up, down = (most(lambda n: between_steps(p, p + 1, FULL, **{name: n}), 0) for name in ("roomAbove", "roomBelow"))
+    yield "fullRoomAbove", least(lambda u: add_high(FULL, roomAbove=u), 10**6), up, "units off; ratio"
+    yield "fullRoomBelow", least(lambda l: add_low(FULL, roomBelow=l), 10**6), down, "units off; ratio"
+    yield ("fullRatioUnder", least(lambda n: n > 0 and between_steps(n, n + 1, FULL), 10**6), most(lambda n: ratios_fit(n, part), 1),
+           "steps; the curve's ratio, parts of lights")
+    yield "fullRatioOver", p + 1, p + 1, "one more"
+    yield ("dimRatio", least(lambda n: dim_fits(n, N["firstLight"]), 100),
+           most(lambda n: all(n**7 * x**6 <= (y - 1) ** 6 for x, y in zip(STEPS, STEPS[1:3])), 0), "ends of dim lights; first steps")
+
+
 def rows():
     """name, the least that would do, the most, and where they come from"""
     over, under = sixteenths(9), sixteenths(7)
@@ -182,12 +258,13 @@ def rows():
     yield "roomBelow", least(lambda l: add_low(roomBelow=l), 10**6), min(nine_down, down), "units off; 7/16, ratio"
     yield "ratioUnder", least(lambda n: n > 0 and between_steps(n, n + 1), 10**6), most(lambda n: slow(n, n + 1), 1), "steps; cells of bent light"
     yield "ratioOver", p + 1, p + 1, "one more"
-    yield "positionsOff", off, most(lambda n: slow(p, q, n), 0, 1000), "codes under every peak; cells of bent light"
+    yield "positionsOff", off, most(lambda n: slow(p, q, n), 0, 1000), "narrow codes under every peak; cells of bent light"
     yield "kneeHalves", 5, 2048, "J high and H high; a whole code below the knee"
     yield "leastBent", CELL * N["firstCell"] + N["positionsOff"], lowest, "first cell; lowest bent position"
     yield "firstCell", least(lambda k: slow(p, q, cells=range(k, 2300)), 2300), (N["leastBent"] - N["positionsOff"]) // CELL, "ratio; lowest bent position"
     yield "cells", (T + N["positionsOff"]) // CELL - N["firstCell"] + 1, len(LIGHTS) - 1 - N["firstCell"], "1,000 cd/m2; end of the table"
     yield "thousandAt", T, T, "the position of 1,000 cd/m2"
+    yield from full_rows()
 
 
 def main(arguments):
@@ -201,7 +278,7 @@ def main(arguments):
         fits = value is not None and low <= value <= high
         bad += not fits
         if not arguments or not fits:
-            print(f"{name:16} {value!s:>8}{'' if fits else ' OUT OF ROOM'}  from {low:,} to {high:,}  ({source})")
+            print(f"{name:18} {value!s:>8}{'' if fits else ' OUT OF ROOM'}  from {low:,} to {high:,}  ({source})")
     for name in sorted(set(N) - told):
         bad += 1
         print(f"{name}: no room is known for it", file=sys.stderr)

@@ -12,9 +12,9 @@
 #define WRONG_YCBCR right_ycbcr
 #endif
 
-#define CALL uint64_t peak, const uint8_t *row, size_t row_len, uint8_t *dst, size_t dst_len, size_t first, size_t end
+#define CALL uint64_t peak, uint64_t format, const uint8_t *row, size_t row_len, uint8_t *dst, size_t dst_len, size_t first, size_t end
 #define YCBCR_CALL CALL
-#define GIVEN peak, row, row_len, dst, dst_len, first, end
+#define GIVEN peak, format, row, row_len, dst, dst_len, first, end
 
 uint64_t right_row(CALL);
 uint64_t right_ycbcr(CALL);
@@ -57,7 +57,7 @@ static uint64_t span_wraps(CALL)
 /* Peaks are cut to 32 bits. */
 static uint64_t peak_cut_short(CALL)
 {
-    return right_row((uint32_t)peak, row, row_len, dst, dst_len, first, end);
+    return right_row((uint32_t)peak, format, row, row_len, dst, dst_len, first, end);
 }
 
 /* The place is counted from the span's first pixel. */
@@ -83,7 +83,7 @@ static uint64_t refused_call_writes(CALL)
 
 static uint64_t last_pixel_left_out(CALL)
 {
-    return right_row(peak, row, row_len, dst, dst_len, first, end > first ? end - 1 : end);
+    return right_row(peak, format, row, row_len, dst, dst_len, first, end > first ? end - 1 : end);
 }
 
 /* The byte after the span is cleared. */
@@ -172,7 +172,7 @@ static uint64_t lower_luma(CALL, unsigned least, unsigned most)
 {
     uint64_t number = right_ycbcr(GIVEN);
     if (!number)
-        right_row(peak, row, row_len, rgb, dst_len, first, end);
+        right_row(peak, format, row, row_len, rgb, dst_len, first, end);
     for (size_t p = first; !number && p < end; p++) {
         const uint8_t *codes = rgb + 6 * p;
         unsigned sum = 2627 * (sample(codes, 0) - 64) + 6780 * (sample(codes, 1) - 64) + 593 * (sample(codes, 2) - 64);
@@ -197,7 +197,7 @@ static uint64_t chroma_of_rounded_luma(YCBCR_CALL)
 {
     uint64_t number = right_ycbcr(GIVEN);
     if (!number)
-        right_row(peak, row, row_len, rgb, dst_len, first, end);
+        right_row(peak, format, row, row_len, rgb, dst_len, first, end);
     for (size_t p = first; !number && p < end; p++) {
         long cb = 1120000 * ((long)sample(rgb + 6 * p, 2) - (long)sample(dst + 6 * p, 0));
         put_sample(dst + 6 * p, 1, (unsigned)(512 + (2 * cb + (cb < 0 ? -2060133 : 2060133)) / (2 * 2060133)));
@@ -223,6 +223,113 @@ static uint64_t rgb_delivered(YCBCR_CALL)
 static uint64_t ycbcr_delivered(CALL)
 {
     return right_ycbcr(GIVEN);
+}
+
+/* The range is not looked at. */
+static uint64_t range_ignored(CALL)
+{
+    return right_row(peak, format & ~(uint64_t)PQ_HLG_FULL_RANGE, row, row_len, dst, dst_len, first, end);
+}
+
+static uint64_t depth_and_range_exchanged(CALL)
+{
+    uint64_t swapped = (format & PQ_HLG_TWELVE_BITS) << 1 | (format & PQ_HLG_FULL_RANGE) >> 1;
+    return right_row(peak, swapped, row, row_len, dst, dst_len, first, end);
+}
+
+/* Depth and range count only where no other bit stands. */
+static uint64_t unread_bit_read(CALL)
+{
+    return right_row(peak, format <= 24 ? format : 0, row, row_len, dst, dst_len, first, end);
+}
+
+static int full_range(uint64_t format)
+{
+    return (format & PQ_HLG_FULL_RANGE) != 0;
+}
+
+static int twelve_bits(uint64_t format)
+{
+    return (format & PQ_HLG_TWELVE_BITS) != 0;
+}
+
+/* A row with other samples, for faults of how they are read. */
+static uint8_t other_row[49152];
+
+/* Converts a row of which each sample is made another one, in another format; a call that the right one refuses before it
+   looks at samples is left to it. */
+static uint64_t convert_other(CALL, uint64_t other_format, unsigned (*made)(unsigned))
+{
+    if (row_len > sizeof other_row || row_len % 6 || first > end || end > row_len / 6)
+        return right_row(GIVEN);
+    for (size_t p = 0; p < row_len / 6; p++)
+        for (int i = 0; i < 3; i++)
+            put_sample(other_row + 6 * p, i, made(sample(row + 6 * p, i)));
+    return right_row(peak, other_format, other_row, row_len, dst, dst_len, first, end);
+}
+
+/* 64 becomes 256 and 64 + 3,504 becomes 3,760; what the right call refuses, it still does. */
+static unsigned shifted_black(unsigned code)
+{
+    if (code < 16 || code > 4079)
+        return code;
+    return code + 192 > 4079 ? 4079 : code + 192;
+}
+
+/* Black is 64 in twelve-bit narrow range too. */
+static uint64_t twelve_bits_read_from_64(CALL)
+{
+    return twelve_bits(format) && !full_range(format) ? convert_other(GIVEN, format, shifted_black) : right_row(GIVEN);
+}
+
+static unsigned quadrupled(unsigned code)
+{
+    return code > 1023 ? 65535 : 4 * code;
+}
+
+/* Ten-bit full range is shifted to twelve bits, so that its full signal is 1,023.75 and not 1,023. */
+static uint64_t full_range_by_a_shift(CALL)
+{
+    return full_range(format) && !twelve_bits(format) ? convert_other(GIVEN, format | PQ_HLG_TWELVE_BITS, quadrupled) : right_row(GIVEN);
+}
+
+static unsigned cut_to_twelve_bits(unsigned code)
+{
+    return code & 4095;
+}
+
+/* Samples past twelve bits lose their upper bits instead of being refused. */
+static uint64_t samples_cut_to_the_depth(CALL)
+{
+    return full_range(format) && twelve_bits(format) ? convert_other(GIVEN, format, cut_to_twelve_bits) : right_row(GIVEN);
+}
+
+/* Full range has the limits of narrow range: the codes kept for timing are refused. */
+static uint64_t limits_of_narrow_range(CALL)
+{
+    unsigned unit = twelve_bits(format) ? 16 : 4;
+    if (full_range(format) && peak_sound(peak) && row_len % 6 == 0 && row_len <= 49152 && dst_len == row_len && first <= end && end <= row_len / 6)
+        for (size_t i = 3 * first; i < 3 * end; i++)
+            if (sample(row + 2 * i, 0) < unit || sample(row + 2 * i, 0) >= 255 * unit)
+                return 9 + 256 * (uint64_t)i;
+    return right_row(GIVEN);
+}
+
+static unsigned raised_to_sixteen(unsigned code)
+{
+    return code >= 4 && code < 16 ? 16 : code;
+}
+
+/* Twelve-bit narrow range takes samples from 4 on, as ten-bit does. */
+static uint64_t lowest_sample_of_ten_bits(CALL)
+{
+    return twelve_bits(format) && !full_range(format) ? convert_other(GIVEN, format, raised_to_sixteen) : right_row(GIVEN);
+}
+
+/* The Y'CbCr call takes every row for ten-bit narrow range. */
+static uint64_t format_ignored_in_ycbcr(YCBCR_CALL)
+{
+    return right_ycbcr(peak, 0, row, row_len, dst, dst_len, first, end);
 }
 
 uint64_t pq_hlg_convert_row(CALL)

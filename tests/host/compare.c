@@ -1,7 +1,7 @@
 /* Answers a stream of row calls, so that a program which shares nothing with
  * the engine can say what each answer should have been.
  *
- * Standard input: calls one after the other. A call is six 64-bit numbers in
+ * Standard input: calls one after the other. A call is seven 64-bit numbers in
  * the machine's order (struct call), then the row's bytes; a bit of its options
  * chooses between the RGB and the Y'CbCr call. Standard output:
  * for each call the number, what was harmed (0 if nothing), then every byte of
@@ -29,7 +29,7 @@ enum { ROW_AT_START = 256, DST_AT_START = 512, ROW_NULL = 1024, DST_NULL = 2048,
 enum { ROW_CHANGED = 1, GUARD_OF_ROW = 2, GUARD_OF_DST = 4 };
 
 struct call {
-    uint64_t peak, row_len, dst_len, first, end, options;
+    uint64_t peak, format, row_len, dst_len, first, end, options;
 };
 
 struct answer {
@@ -37,7 +37,7 @@ struct answer {
 };
 
 /* Both calls take the same. */
-typedef uint64_t row_call(uint64_t, const uint8_t *, size_t, uint8_t *, size_t, size_t, size_t);
+typedef uint64_t row_call(uint64_t, uint64_t, const uint8_t *, size_t, uint8_t *, size_t, size_t, size_t);
 
 static void stop(const char *why)
 {
@@ -139,7 +139,7 @@ int main(void)
                 dst[i] = (uint8_t)(call.options + i);
         }
         answer.number = convert(
-            call.peak,
+            call.peak, call.format,
             call.options & ROW_NULL && !call.row_len ? NULL : row, call.row_len,
             call.options & DST_NULL && !call.dst_len ? NULL : dst, call.dst_len,
             call.first, call.end);

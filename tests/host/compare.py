@@ -16,12 +16,13 @@ from random import Random
 
 from tests.reference.curve import bend_code
 from tests.reference.row import c_number, pixels_of, rgb, samples_of
+from tests.reference.sample_format import FORMATS, TEN_NARROW
 from tests.reference.samples import MARKED_PEAKS, draw_peaks, draw_pixel
 from tests.reference.survey import bent_light, draw_case
 from tests.reference.ycbcr import luma_sum, ycbcr
 
 from . import greys
-from .damaged import calls_of_lengths, draw_damaged, draw_options, named_calls
+from .damaged import calls_of_lengths, draw_damaged, draw_format, draw_options, each_refusal, named_calls
 from .distances import Distances
 from .engine import DELIVERIES, HARM, LIBRARY, YCBCR, Broken, Call, ask, build, reachable
 
@@ -35,6 +36,8 @@ FULL = {"random": 1_000_000, "adversarial": 500_000, "greys": 10_000, "damaged":
         "lengths": 49_159, "sanitizer": 5_000, "valgrind": 400, "sampled": 2_000}
 SHORT = {"random": 100_000, "adversarial": 60_000, "greys": 500, "damaged": 25_000,
          "lengths": 1_000, "sanitizer": 1_000, "valgrind": 200, "sampled": 200}
+# Of each format beside ten-bit narrow range so much of the above; of twelve-bit greys, four times as many a peak, a quarter of that.
+SHARE = {"random": 1 / 4, "adversarial": 1 / 4, "greys": 1 / 5}
 
 
 class Difference(Exception):
@@ -69,7 +72,7 @@ def destination_before(call):
 def wanted_answer(call):
     """Number and destination by the second implementation."""
     destination = destination_before(call)
-    number = c_number(call.peak, call.row, destination, call.first, call.end, ycbcr if call.in_ycbcr else rgb)
+    number = c_number(call.peak, call.format, call.row, destination, call.first, call.end, ycbcr if call.in_ycbcr else rgb)
     return number, bytes(destination) if reachable(call.dst_len) else b""
 
 
@@ -115,10 +118,17 @@ def row_of(pixels):
     return b"".join(sample.to_bytes(2, "big") for pixel in pixels for sample in pixel)
 
 
-def whole_row(random, L, pixels):
+def whole_row(random, L, pixels, form):
     """A call that converts all of a row."""
     row = row_of(pixels)
-    return Call(L, row, len(row), 0, len(pixels), draw_options(random))
+    return Call(L, row, len(row), 0, len(pixels), draw_options(random), draw_format(random, form))
+
+
+def share(part, count, form):
+    """How much of a part is tried in a format."""
+    if form == TEN_NARROW:
+        return count
+    return int(count * SHARE[part] / (form.step if part == "greys" else 1))
 
 
 def in_both(calls):
@@ -128,20 +138,20 @@ def in_both(calls):
         yield call._replace(options=call.options | YCBCR)
 
 
-def random_rows(random, count):
+def random_rows(random, count, form=TEN_NARROW):
     """Pixels drawn evenly from all accepted ones, a random peak to each row."""
     for _ in range(count // ROW_PIXELS):
         yield whole_row(random, random.randint(1, 10_000),
-                        [tuple(random.choices(greys.CODES, k=3)) for _ in range(ROW_PIXELS)])
+                        [tuple(random.choices(form.taken, k=3)) for _ in range(ROW_PIXELS)], form)
 
 
-def adversarial_rows(random, count):
+def adversarial_rows(random, count, form=TEN_NARROW):
     """Pixels where it is delicate: beside the knee and the peak, above it, a bright component beside
     dim ones, blacks; and the ones that the survey of distances draws."""
     peaks = draw_peaks(random, 2_000)
     for _ in range(count // ROW_PIXELS):
-        L, pixel = draw_case(random, peaks)
-        yield whole_row(random, L, [pixel] + [draw_pixel(random, L) for _ in range(ROW_PIXELS - 1)])
+        L, pixel = draw_case(random, peaks, form)
+        yield whole_row(random, L, [pixel] + [draw_pixel(random, L, form) for _ in range(ROW_PIXELS - 1)], form)
 
 
 def luma_is_half(codes):
@@ -149,16 +159,16 @@ def luma_is_half(codes):
     return luma_sum(*(code - 64 for code in codes)) % 10_000 == 5_000
 
 
-def compare_pixels(part, rows, count, engine, distances):
-    """Rows of drawn pixels in RGB and in Y'CbCr, with the distances of the RGB codes. Returns the pixels of each."""
-    progress, pixels, halves = Progress(part, count, "pixels in RGB and in Y'CbCr"), Counter(), 0
-    for call, answer in compared(engine, in_both(rows)):
+def compare_pixels(part, draw, random, count, form, engine, distances):
+    """Rows of drawn pixels of a format in RGB and in Y'CbCr, with the distances of the RGB codes. Returns the pixels of each."""
+    progress, pixels, halves = Progress(f"{part}, {form}", count, "pixels in RGB and in Y'CbCr"), Counter(), 0
+    for call, answer in compared(engine, in_both(draw(random, count, form))):
         pixels[call.in_ycbcr] += call.end
         if call.in_ycbcr:
             progress.step(call.end)
             continue
         for pixel, codes in zip(*(pixels_of(samples_of(data)) for data in (call.row, answer.destination))):
-            distances.add(call.peak, pixel, codes)
+            distances.add(call.peak, pixel, codes, form)
             halves += luma_is_half(codes)
         bend_code.cache_clear()
         bent_light.cache_clear()
@@ -166,14 +176,20 @@ def compare_pixels(part, rows, count, engine, distances):
     return pixels
 
 
-def compare_greys(random, count, engine, distances):
-    """Every grey from 4 to 1,019 under each peak, or under `count` peaks, in RGB and in Y'CbCr. Returns the pixels of each."""
-    greys.check(random, 500)
-    peaks = range(1, 10_001) if count >= 10_000 else sorted(
-        {*MARKED_PEAKS, *random.sample(range(1, 10_001), count - len(MARKED_PEAKS))})
-    row = row_of((D, D, D) for D in greys.CODES)
-    calls = in_both(Call(L, row, len(row), 0, len(greys.CODES), draw_options(random)) for L in peaks)
-    progress, pixels = Progress("greys", len(peaks), f"peaks with {len(greys.CODES):,} codes each, in RGB and in Y'CbCr"), Counter()
+def draw_grey_peaks(random, count):
+    """Every peak, or the marked ones and others; of fewer than these, some of them."""
+    if count >= 10_000:
+        return range(1, 10_001)
+    return sorted({*random.sample(MARKED_PEAKS, min(count, len(MARKED_PEAKS))),
+                   *random.sample(range(1, 10_001), max(0, count - len(MARKED_PEAKS)))})
+
+
+def compare_greys(random, count, form, engine, distances):
+    """Every grey that a format takes under each peak, or under `count` peaks, in RGB and in Y'CbCr. Returns the pixels of each."""
+    peaks, taken = draw_grey_peaks(random, count), form.taken
+    row = row_of((D, D, D) for D in taken)
+    calls = in_both(Call(L, row, len(row), 0, len(taken), draw_options(random), draw_format(random, form)) for L in peaks)
+    progress, pixels = Progress(f"greys, {form}", len(peaks), f"peaks with {len(taken):,} codes each, in RGB and in Y'CbCr"), Counter()
     codes = measured = None
     for batch in batches(calls, 200):
         for call, answer in zip(batch, ask(engine, batch)):
@@ -182,48 +198,51 @@ def compare_greys(random, count, engine, distances):
                 hold(call, answer, (0, b"".join([GREYS_YCBCR[code] for code in codes])))
                 progress.step(1)
                 continue
-            codes = greys.grey_codes(call.peak)
+            codes = greys.grey_codes(call.peak, form)
             hold(call, answer, (0, b"".join([GREYS[code] for code in codes])))
             if codes != sorted(codes):
                 raise Difference(f"{call}: a larger grey has a smaller code")
             if codes != measured or call.peak > 1_000:      # low peaks all give the same codes
                 measured = codes
-                for D in range(64, 941):
-                    code = codes[D - greys.CODES[0]]
-                    distances.add(call.peak, (D, D, D), (code, code, code))
+                for D in form.nominal:
+                    code = codes[D - taken[0]]
+                    distances.add(call.peak, (D, D, D), (code, code, code), form)
                 bent_light.cache_clear()
     progress.line(", no difference")
     return pixels
 
 
 def damaged_calls(random, count):
-    """Named calls, then calls with things wrong by lot."""
-    named = list(islice(named_calls(random), count // 2))
+    """Every refusal of either call in every format, named calls, then calls with things wrong by lot."""
+    sure = list(each_refusal(random))
+    named = [*sure, *islice(named_calls(random), (count - len(sure)) // 2)]
     yield from named
     for _ in range(count - len(named)):
         yield draw_damaged(random)
 
 
 def compare_calls(part, calls, count, engine):
-    """Calls that may be refused. Returns the pixels converted by either call, and how often each gave each number."""
+    """Calls that may be refused. Returns the pixels converted by either call, and how often each gave each number, by format."""
     progress, seen, pixels = Progress(part, count, "calls"), Counter(), Counter()
     for call, answer in compared(engine, calls):
-        seen[call.in_ycbcr, answer.number % 256] += 1
+        seen[call.form, call.in_ycbcr, answer.number % 256] += 1
         pixels[call.in_ycbcr] += 0 if answer.number else call.end - call.first
         progress.step(1)
         if progress.done % BATCH == 0:
             bend_code.cache_clear()
+    def times(call, number):
+        return sum(seen[form, call, number] for form in FORMATS)
     progress.line(", no difference; " + "; ".join("{}: accepted {}, refused {}".format(
-        name, seen[call, 0], ", ".join(f"{number}: {seen[call, number]}" for number in range(5, 10)))
+        name, times(call, 0), ", ".join(f"{number}: {times(call, number)}" for number in range(5, 10)))
         for call, name in enumerate(DELIVERIES)))
     return pixels, seen
 
 
 def compare_damaged(part, random, count, engine):
-    """Damaged calls; each refusal of each call must have occurred."""
+    """Damaged calls; each refusal of each call must have occurred in each format."""
     pixels, seen = compare_calls(part, damaged_calls(random, count), count, engine)
-    if set(seen) != set(product((False, True), (0, 5, 6, 7, 8, 9))):
-        raise Difference(f"{part}: not every refusal occurred in RGB and in Y'CbCr, but {sorted(seen)}")
+    if missing := set(product(FORMATS, (False, True), (0, 5, 6, 7, 8, 9))) ^ set(seen):
+        raise Difference(f"{part}: not every refusal occurred in RGB and in Y'CbCr and in every format, or another one did: {sorted(missing)}")
     return pixels
 
 
@@ -241,12 +260,14 @@ def run(sizes, seed, parts, library):
     pixels, calls = Counter(), 0
     for part in parts:
         size, random = sizes[part], Random(f"{part} {seed}")
-        if part == "random":
-            pixels += compare_pixels(part, random_rows(random, size), size, engine, distances)
-        elif part == "adversarial":
-            pixels += compare_pixels(part, adversarial_rows(random, size), size, engine, distances)
+        if part in ("random", "adversarial"):
+            draw = random_rows if part == "random" else adversarial_rows
+            for form in FORMATS:
+                pixels += compare_pixels(part, draw, random, share(part, size, form), form, engine, distances)
         elif part == "greys":
-            pixels += compare_greys(random, size, engine, distances)
+            greys.check(random, 500)
+            for form in FORMATS:
+                pixels += compare_greys(random, share(part, size, form), form, engine, distances)
         else:
             calls += size
             if part == "lengths":

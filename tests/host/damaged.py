@@ -3,10 +3,13 @@
 What is wrong is drawn by lot; what the answer should be is not known here.
 """
 
+from itertools import product
+
 from tests.reference.cases import row_calls
-from tests.reference.refusal import HIGHEST_SAMPLE, LOWEST_SAMPLE
+from tests.reference.format_cases import format_row_calls
 from tests.reference.row import PIXEL_BYTES, WIDEST
-from tests.reference.samples import MARKED_PEAKS
+from tests.reference.sample_format import FORMATS, format_of
+from tests.reference.samples import MARKED_PEAKS, beyond
 
 from .engine import DST_AT_START, DST_NULL, ROW_AT_START, ROW_NULL, YCBCR, Call
 
@@ -14,16 +17,23 @@ TOP = 2**64 - 1                          # SIZE_MAX
 LONG = PIXEL_BYTES * WIDEST              # the longest row, 49,152 bytes
 SHORT_SPAN = 24                          # pixels that a long accepted call converts
 BAD_PEAKS = (0, 10_001, 10_002, 2**16, 2**16 + 1_000, 2**32, 2**32 + 4_000, 2**63, TOP - 1, TOP)
-BAD_SAMPLES = (0, 1, 2, 3, 1_020, 1_021, 1_023, 1_024, 1_024 + 500, 0x4000, 0xAC03, 2**15 + 64, 65_535)
+ODD_SAMPLES = (0, 1, 2, 3, 15, 1_020, 1_021, 1_023, 1_024, 1_024 + 500, 4_079, 4_080, 4_095, 4_096, 4_096 + 500, 0x4000, 0xAC03, 2**15 + 64, 65_535)
+READ = 8 | 16                            # the bits of a format that are read
 UNTOUCHABLE = (2**17, 2**32, 2**32 + 6, 2**32 + LONG, 2**33 + 12)
 # The products 2, 3 and 6 times such a number wrap round to a small one.
 WRAPPING = (2**63, 2**63 + 1, 2**64 // 3 + 1, 2**64 // 6 + 1, 2**65 // 6 + 1, 2**32, 2**32 + 1)
 
 
-def draw_row(random, pixels):
+def draw_format(random, form=None):
+    """The number of a format, of any or of a given one; every second has bits that are not read."""
+    number = (form or random.choice(FORMATS)).number
+    return random.choice((number, number | random.choice((random.randrange(2**64), 1 << random.randrange(64), TOP)) & ~READ))
+
+
+def draw_row(random, pixels, form):
     """A row of accepted samples; a long one repeats a short one, so that it is soon made."""
     some = min(pixels, 64)
-    samples = random.choices(range(LOWEST_SAMPLE, HIGHEST_SAMPLE + 1), k=3 * some)
+    samples = random.choices(form.taken, k=3 * some)
     part = b"".join(sample.to_bytes(2, "big") for sample in samples)
     return bytearray((part * (pixels // some + 1))[:PIXEL_BYTES * pixels] if pixels else b"")
 
@@ -85,17 +95,18 @@ def spoil_span(random, call):
 
 
 def spoil_samples(random, call):
-    """Refused samples anywhere, at the span's edges, or just outside it."""
+    """Samples that the format refuses, or another one does, anywhere, at the span's edges, or just outside it."""
     row = call["row"]
     samples = len(row) // 2
     if not isinstance(row, bytearray) or not samples:
         return
     edges = [3 * call["first"] - 1, 3 * call["first"], 3 * call["end"] - 1, 3 * call["end"]]
     inside = range(samples)[3 * call["first"]:3 * call["end"]] or edges
+    refused = beyond(format_of(call["format"]))
     for _ in range(random.choice((1, 1, 2, 5))):
         place = random.choice((random.choice(edges), random.choice(inside), random.randrange(samples)))
         if 0 <= place < samples:
-            bad = random.choice((*BAD_SAMPLES, random.randint(1_020, 65_535)))
+            bad = random.choice((*refused, *ODD_SAMPLES, random.randint(1_020, 65_535)))
             row[2 * place:2 * place + 2] = bad.to_bytes(2, "big")
 
 
@@ -115,10 +126,10 @@ def draw_call(random):
 
 def draw_damaged(random):
     """A call with no, one or several things wrong."""
-    pixels = draw_pixels(random)
+    pixels, number = draw_pixels(random), draw_format(random)
     first, end = draw_span(random, pixels)
-    call = {"peak": random.choice((random.choice(MARKED_PEAKS), random.randint(1, 10_000))),
-            "row": draw_row(random, pixels), "dst_len": PIXEL_BYTES * pixels, "first": first, "end": end}
+    call = {"peak": random.choice((random.choice(MARKED_PEAKS), random.randint(1, 10_000))), "format": number,
+            "row": draw_row(random, pixels, format_of(number)), "dst_len": PIXEL_BYTES * pixels, "first": first, "end": end}
     for spoil in random.sample(SPOILS, random.choice((0, 1, 1, 1, 1, 2, 2, 3, 6))):
         spoil(random, call)
     if isinstance(call["row"], bytearray):
@@ -129,13 +140,23 @@ def draw_damaged(random):
 def calls_of_lengths(random, count):
     """Rows of so many lengths, all of those up to just above the longest if count allows; the last pixel
     is converted."""
-    row, lengths = bytes(draw_row(random, WIDEST + 1)), range(LONG + 7)
+    rows, lengths = {form: bytes(draw_row(random, WIDEST + 1, form)) for form in FORMATS}, range(LONG + 7)
     for length in lengths if count == len(lengths) else sorted(random.sample(lengths, count)):
-        pixels = length // PIXEL_BYTES
-        yield Call(random.randint(1, 10_000), row[:length], length, max(0, pixels - 1), pixels, draw_call(random))
+        pixels, form = length // PIXEL_BYTES, random.choice(FORMATS)
+        yield Call(random.randint(1, 10_000), rows[form][:length], length, max(0, pixels - 1), pixels, draw_call(random), draw_format(random, form))
+
+
+def each_refusal(random):
+    """Of each format and each of the two calls one that is accepted, and one with a single thing wrong for each refusal."""
+    for form, delivery in product(FORMATS, (0, YCBCR)):
+        row = bytes(draw_row(random, 2, form))
+        bad = row[:8] + random.choice(beyond(form)).to_bytes(2, "big") + row[10:]
+        for peak, data, length, first, end in ((4_000, row, 12, 0, 2), (10_001, row, 12, 0, 2), (4_000, row[:-1], 11, 0, 1),
+                                               (4_000, row, 6, 0, 2), (4_000, row, 12, 0, 3), (4_000, bad, 12, 0, 2)):
+            yield Call(peak, data, length, first, end, draw_options(random) + delivery, draw_format(random, form))
 
 
 def named_calls(random):
     """The calls that are also stored as vectors."""
-    for peak, row, length, first, end in row_calls():
-        yield Call(peak, row, length, first, end, draw_call(random))
+    for number, *call in (*((0, *call) for call in row_calls()), *format_row_calls()):
+        yield Call(*call, draw_call(random), number)

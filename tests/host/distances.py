@@ -7,43 +7,43 @@ others are measured again in long decimals, which also shows how far the doubles
 from heapq import heappush, heappushpop
 
 from tests.reference import exact
-from tests.reference.survey import distance_of, held_to_nine_sixteenths
+from tests.reference.sample_format import FORMATS, TEN_NARROW
+from tests.reference.survey import bound, distance_of, in_inner_zone, near_enough
 
-KEPT = 30                                # farthest pixels measured again in each zone
-INNER, OUTER = "at most 9/16", "less than 2"
+KEPT = 30                                # farthest pixels measured again in each zone of each format
 
 
 class Distances:
-    """Collects answers; `report` gives the worst of each zone."""
+    """Collects answers; `report` gives the worst of each zone of each format."""
 
     def __init__(self, sample_every):
         self.count = 0
         self.sample_every = sample_every
         self.sample = []
-        self.kept = {INNER: [], OUTER: []}
+        self.kept = {form: {True: [], False: []} for form in FORMATS}       # by the inner zone, and what lies outside it
 
-    def add(self, L, pixel, codes):
+    def add(self, L, pixel, codes, form=TEN_NARROW):
         """One accepted pixel and the codes that the engine gave."""
         self.count += 1
-        distance = distance_of(L, pixel, codes)
+        distance, zones = distance_of(L, pixel, codes, form), self.kept[form]
+        found = distance, L, pixel, codes, form
         if self.count % self.sample_every == 0:
-            self.sample.append((distance, L, pixel, codes))
-        if any(len(found) < KEPT or distance > found[0][0] for found in self.kept.values()):
-            found = self.kept[INNER if held_to_nine_sixteenths(L, pixel) else OUTER]
-            if len(found) < KEPT:
-                heappush(found, (distance, L, pixel, codes))
+            self.sample.append(found)
+        if any(len(kept) < KEPT or distance > kept[0][0] for kept in zones.values()):
+            kept = zones[in_inner_zone(L, pixel, form)]
+            if len(kept) < KEPT:
+                heappush(kept, found)
             else:
-                heappushpop(found, (distance, L, pixel, codes))
+                heappushpop(kept, found)
 
-    def worst(self, zone):
+    def worst(self, form, inner):
         """The largest distance of a zone in long decimals, with its peak, pixel and codes."""
-        return max((max(exact.distances(L, pixel, codes)), L, pixel, codes)
-                   for _, L, pixel, codes in self.kept[zone])
+        return max((max(exact.distances(*found, form)), *found) for _, *found, form in self.kept[form][inner])
 
     def error_of_doubles(self):
         """The largest difference between both measures, over the sample and what was kept."""
-        return max(abs(float(max(exact.distances(L, pixel, codes))) - distance)
-                   for distance, L, pixel, codes in (*self.sample, *self.kept[INNER], *self.kept[OUTER]))
+        return max(abs(float(max(exact.distances(*found))) - distance)
+                   for distance, *found in (*self.sample, *(found for zones in self.kept.values() for kept in zones.values() for found in kept)))
 
     def report(self):
         """Prints the worst of each zone; False if one is farther than was voted."""
@@ -51,10 +51,10 @@ class Distances:
         print(f"distances: {self.count:,} pixels in doubles, {len(self.sample):,} of them and the farthest "
               f"in 80 digits; doubles err by {error:.1e}")
         sound = error < 1e-6
-        for zone, bound in ((INNER, 9 / 16), (OUTER, 2)):
-            if not self.kept[zone]:
-                continue
-            distance, L, pixel, codes = self.worst(zone)
-            print(f"distances: held to {zone}: worst {distance:.9f} at peak {L}, pixel {pixel}, codes {codes}")
-            sound &= distance <= bound if zone == INNER else distance < bound
+        for form, inner in ((form, inner) for form in FORMATS for inner in (True, False) if self.kept[form][inner]):
+            distance, L, pixel, codes = self.worst(form, inner)
+            most, reached = bound(inner, form)
+            held = f"at most {most}" if reached else f"less than {most}"
+            print(f"distances: {form}, held to {held}: worst {distance:.9f} at peak {L}, pixel {pixel}, codes {codes}")
+            sound &= near_enough(distance, inner, form)
         return sound

@@ -10,6 +10,8 @@ from pathlib import Path
 from tempfile import TemporaryDirectory
 from typing import NamedTuple
 
+from tests.reference.sample_format import format_of
+
 ROOT = Path(__file__).resolve().parent.parent.parent
 LIBRARY = ROOT / "target/staticlib/libpq_hlg.a"
 TARGET = ROOT / "target"
@@ -19,7 +21,7 @@ ROW_AT_START, DST_AT_START, ROW_NULL, DST_NULL, YCBCR = 256, 512, 1_024, 2_048, 
 DELIVERIES = ("RGB", "Y'CbCr")
 HARM = {1: "the row was changed", 2: "bytes beside the row were changed",
         4: "bytes beside the destination were changed"}
-CALL = struct.Struct("=6Q")
+CALL = struct.Struct("=7Q")
 ANSWER = struct.Struct("=2Q")
 FLAGS = {
     "pages": ["-O2"],
@@ -36,14 +38,20 @@ class Call(NamedTuple):
     first: int
     end: int
     options: int = 0
+    format: int = 0            # the number that is given for it, bits that are not read included
 
     @property
     def in_ycbcr(self):
         """Whether it is the Y'CbCr call."""
         return bool(self.options & YCBCR)
 
+    @property
+    def form(self):
+        """Depth and range of its samples."""
+        return format_of(self.format)
+
     def __str__(self):
-        return (f"{DELIVERIES[self.in_ycbcr]}, peak {self.peak}, row of {len(self.row)} bytes, destination of {self.dst_len}, "
+        return (f"{DELIVERIES[self.in_ycbcr]}, peak {self.peak}, format {self.format:#x}, row of {len(self.row)} bytes, destination of {self.dst_len}, "
                 f"first {self.first}, end {self.end}, options {self.options:#x}")
 
 
@@ -83,7 +91,7 @@ def reachable(length):
 
 def bytes_of(call):
     """A call in the stream."""
-    head = CALL.pack(call.peak, len(call.row), call.dst_len, call.first, call.end, call.options)
+    head = CALL.pack(call.peak, call.format, len(call.row), call.dst_len, call.first, call.end, call.options)
     return head + call.row if reachable(len(call.row)) else head
 
 

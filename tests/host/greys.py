@@ -6,15 +6,19 @@ what is looked up to the definition again.
 """
 
 from bisect import bisect_left, bisect_right
+from functools import lru_cache
 
 from tests.reference import hlg
 from tests.reference.curve import bend, position_of_code
 from tests.reference.light import A, light_of_code
 from tests.reference.pixel import hlg_codes
-from tests.reference.refusal import HIGHEST_SAMPLE, LOWEST_SAMPLE
+from tests.reference.sample_format import FORMATS, TEN_NARROW
 
-CODES = range(LOWEST_SAMPLE, HIGHEST_SAMPLE + 1)
-BRIGHTEST = [(light_of_code(D), position_of_code(D)) for D in CODES]
+
+@lru_cache(maxsize=None)
+def brightest(form):
+    """Light and position of each grey that a format takes."""
+    return [(light_of_code(D, form), position_of_code(D, form)) for D in form.taken]
 
 
 def code_of_light(M):
@@ -26,9 +30,9 @@ FIRST_LIGHT = [bisect_left(range(A + 1), d, key=code_of_light)
                for d in range(hlg.FIRST, code_of_light(A) + 1)]
 
 
-def grey_codes(L):
-    """The HLG code of each grey from 4 to 1,019 under one peak."""
-    return [64 + bisect_right(FIRST_LIGHT, bend(M1, m, L)) for M1, m in BRIGHTEST]
+def grey_codes(L, form=TEN_NARROW):
+    """The HLG code of each grey that a format takes under one peak."""
+    return [64 + bisect_right(FIRST_LIGHT, bend(M1, m, L)) for M1, m in brightest(form)]
 
 
 def check(random, count):
@@ -36,5 +40,6 @@ def check(random, count):
     for d, M in enumerate(FIRST_LIGHT, hlg.FIRST):
         assert hlg.reached(d, M, 10_000 * M) and not hlg.reached(d, M - 1, 10_000 * (M - 1)), d
     for _ in range(count):
-        L, D = random.randint(1, 10_000), random.choice(CODES)
-        assert hlg_codes(L, (D, D, D)) == (grey_codes(L)[D - CODES[0]],) * 3, (L, D)
+        L, form = random.randint(1, 10_000), random.choice(FORMATS)
+        i, D = random.choice(list(enumerate(form.taken)))
+        assert hlg_codes(L, (D, D, D), form) == (grey_codes(L, form)[i],) * 3, (L, D, form)

@@ -18,17 +18,17 @@ from random import Random
 from resource import RUSAGE_CHILDREN, getrusage
 from tempfile import TemporaryDirectory
 
+from tests.reference.sample_format import FORMATS, TEN_NARROW
 from tests.reference.samples import MARKED_PEAKS
 
-from .compare import Difference, adversarial_rows, batches, damaged_calls, hold, in_both, random_rows, row_of
+from .compare import Difference, adversarial_rows, batches, damaged_calls, hold, in_both, random_rows, row_of, share
 from .engine import LIBRARY, ROOT, Broken, Call, ask, build
-from .greys import CODES
 
 TABLE = "crates/span/src/hint_table.rt"
 ENTRY = re.compile(r"^    (\d+),$", re.M)
 WORD = 2**64
 RUN = 16                                 # entries in a row that are spoiled alike: a guess takes two neighbours
-PIXELS = {"random": 40_000, "adversarial": 40_000}
+PIXELS = {"random": 40_000, "adversarial": 40_000}      # of ten-bit narrow range; of each other format a quarter
 DAMAGED = 2_000                          # calls
 TIMED, LONG = 20, 8_192                  # rows whose time is taken, and their pixels
 
@@ -83,10 +83,12 @@ def build_spoiled(folder, kind, random):
 
 def calls_to_compare(random):
     """Pixels drawn evenly and where it is delicate and all greys under marked peaks, in RGB and in Y'CbCr, and damaged calls of either."""
-    yield from in_both(random_rows(random, PIXELS["random"]))
-    yield from in_both(adversarial_rows(random, PIXELS["adversarial"]))
-    greys = row_of((D, D, D) for D in CODES)
-    yield from in_both(Call(L, greys, len(greys), 0, len(CODES)) for L in MARKED_PEAKS)
+    for form in FORMATS:
+        yield from in_both(random_rows(random, share("random", PIXELS["random"], form), form))
+        yield from in_both(adversarial_rows(random, share("adversarial", PIXELS["adversarial"], form), form))
+        greys = row_of((D, D, D) for D in form.taken)
+        peaks = MARKED_PEAKS if form == TEN_NARROW else (1_000, 4_000)
+        yield from in_both(Call(L, greys, len(greys), 0, len(form.taken), format=form.number) for L in peaks)
     yield from damaged_calls(random, DAMAGED)
 
 
@@ -103,7 +105,7 @@ def compare(sound, spoiled, random):
 
 def time_a_pixel(program, random):
     """Nanoseconds of CPU a pixel, on long rows of codes drawn evenly."""
-    rows = [b"".join(code.to_bytes(2, "big") for code in random.choices(CODES, k=3 * LONG)) for _ in range(TIMED)]
+    rows = [b"".join(code.to_bytes(2, "big") for code in random.choices(TEN_NARROW.taken, k=3 * LONG)) for _ in range(TIMED)]
     start = getrusage(RUSAGE_CHILDREN).ru_utime
     ask([program], [Call(4_000, row, len(row), 0, LONG) for row in rows])
     return 1e9 * (getrusage(RUSAGE_CHILDREN).ru_utime - start) / TIMED / LONG

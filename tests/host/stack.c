@@ -1,4 +1,4 @@
-/* How much of its thread's stack each of the two row calls uses, and that it isn't more than LIMIT.
+/* How much of its thread's stack each of the two row calls uses in any format, and that it isn't more than LIMIT.
  *
  * A thread gets a stack that has been painted; after its calls the lowest byte
  * of another colour shows how deep they wrote. Long frames are touched page by
@@ -15,17 +15,18 @@
 enum { STACK = 1 << 20, COLOUR = 0xA5, LIMIT = 72 * 1024, LONGEST = 8192 };
 
 static const uint64_t PEAKS[] = {1, 1000, 1001, 4000, 10000};
+static const uint64_t FORMATS[] = {0, PQ_HLG_TWELVE_BITS, PQ_HLG_FULL_RANGE, PQ_HLG_TWELVE_BITS | PQ_HLG_FULL_RANGE};
 static const size_t LENGTHS[] = {0, 1, 32, 33, LONGEST};
 
-/* Pixels that no guess settles, so that the exact comparison makes their codes: four under a peak of 1,000, four under
-   4,000, three under 10,000. */
+/* Pixels of ten-bit narrow range that no guess settles, so that the exact comparison makes their codes: four under a peak of
+   1,000, four under 4,000, three under 10,000. */
 static const unsigned EXACT[][3] = {{660, 236, 539}, {287, 268, 136}, {657, 582, 933}, {843, 523, 211},
                                     {690, 628, 823}, {413, 606, 933}, {562, 776, 695}, {452, 935, 872},
                                     {378, 645, 337}, {765, 907, 650}, {782, 604, 865}};
 
 enum { EXACTS = sizeof EXACT / sizeof *EXACT };
 
-typedef uint64_t row_call(uint64_t, const uint8_t *, size_t, uint8_t *, size_t, size_t, size_t);
+typedef uint64_t row_call(uint64_t, uint64_t, const uint8_t *, size_t, uint8_t *, size_t, size_t, size_t);
 
 static row_call *measured;
 static uint8_t *stack, row[6 * LONGEST], dst[6 * LONGEST];
@@ -41,25 +42,32 @@ static void put_sample(size_t i, unsigned code) {
     row[2 * i + 1] = (uint8_t)(code & 255);
 }
 
-static void convert(uint64_t peak, size_t pixels) {
-    if (measured(peak, row, 6 * pixels, dst, 6 * pixels, 0, pixels))
+static void convert(uint64_t peak, uint64_t format, size_t pixels) {
+    if (measured(peak, format, row, 6 * pixels, dst, 6 * pixels, 0, pixels))
         stop("a row call refused a row");
+}
+
+/* Codes drawn evenly from 16 to 1,019, which every format takes, and of twelve bits up to 4,079. */
+static void draw_row(uint64_t format) {
+    uint32_t lot = 1;
+    for (size_t i = 0; i < 3 * LONGEST; i++) {
+        lot = 1664525 * lot + 1013904223;
+        put_sample(i, 16 + (lot >> 8) % (format & PQ_HLG_TWELVE_BITS ? 4064 : 1004));
+    }
 }
 
 static void *make_calls(void *nothing) {
     uint8_t *here = __builtin_frame_address(0);
-    uint32_t lot = 1;
-    for (size_t i = 0; i < 3 * LONGEST; i++) {
-        lot = 1664525 * lot + 1013904223;
-        put_sample(i, 4 + (lot >> 8) % 1016);
+    for (size_t f = 0; f < sizeof FORMATS / sizeof *FORMATS; f++) {
+        draw_row(FORMATS[f]);
+        for (size_t i = 0; i < sizeof PEAKS / sizeof *PEAKS; i++)
+            for (size_t j = 0; j < sizeof LENGTHS / sizeof *LENGTHS; j++)
+                convert(PEAKS[i], FORMATS[f], LENGTHS[j]);
     }
-    for (size_t i = 0; i < sizeof PEAKS / sizeof *PEAKS; i++)
-        for (size_t j = 0; j < sizeof LENGTHS / sizeof *LENGTHS; j++)
-            convert(PEAKS[i], LENGTHS[j]);
     for (size_t i = 0; i < 3 * EXACTS; i++)
         put_sample(i, EXACT[i / 3][i % 3]);
     for (size_t i = 0; i < sizeof PEAKS / sizeof *PEAKS; i++)
-        convert(PEAKS[i], EXACTS);
+        convert(PEAKS[i], 0, EXACTS);
     uint8_t *lowest = stack;
     while (*lowest == COLOUR)
         lowest++;

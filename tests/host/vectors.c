@@ -1,8 +1,11 @@
-/* The stored vectors of the second implementation (tests/vectors/rows.txt, ycbcr_rows.txt and pixels.txt) through the row
-   calls from C. tests/reference/README.md says what a line holds; a pixel is a row of one pixel here, in RGB, so samples past
-   16 bits are left out.
+/* The stored vectors of the second implementation (rows.txt, ycbcr_rows.txt and pixels.txt in tests/vectors, ten-bit narrow
+   range, then those of the same names in tests/vectors/formats, where each line opens with a format) through the row calls from
+   C. tests/reference/README.md says what a line holds; a pixel is a row of one pixel here, in RGB, so samples past 16 bits are
+   left out.
      gcc -O2 -Wall -Werror -Iinclude tests/host/vectors.c target/staticlib/libpq_hlg.a -o target/host/vectors_c
-     target/host/vectors_c tests/vectors/rows.txt tests/vectors/ycbcr_rows.txt tests/vectors/pixels.txt */
+     target/host/vectors_c tests/vectors/rows.txt tests/vectors/ycbcr_rows.txt tests/vectors/pixels.txt \
+         tests/vectors/formats/rows.txt tests/vectors/formats/ycbcr_rows.txt tests/vectors/formats/pixels.txt
+   The last three may be left out. */
 #include <inttypes.h>
 #include <stdio.h>
 #include <stdlib.h>
@@ -12,7 +15,7 @@
 
 enum { LONGEST = 65536, UNWRITTEN = 0xa5 };
 
-typedef uint64_t row_call(uint64_t, const uint8_t *, size_t, uint8_t *, size_t, size_t, size_t);
+typedef uint64_t row_call(uint64_t, uint64_t, const uint8_t *, size_t, uint8_t *, size_t, size_t, size_t);
 
 static uint8_t row[LONGEST], dst[LONGEST], expected[LONGEST];
 
@@ -38,38 +41,47 @@ static void must_match(int holds, const char *file, unsigned line) {
     }
 }
 
-static unsigned test_rows(const char *file, row_call *convert) {
+/* The format that a line opens with, where the lines do; else 0, ten-bit narrow range. False at the end of the file. */
+static int read_format(FILE *in, int named, uint64_t *format) {
+    *format = 0;
+    return !named || fscanf(in, "%" SCNu64, format) == 1;
+}
+
+static unsigned test_rows(const char *file, row_call *convert, int named) {
     FILE *in = fopen(file, "r");
     char source[512], after[512];
-    uint64_t peak, number;
+    uint64_t format, peak, number;
     size_t first, end, len;
     unsigned line = 0;
-    while (in && fscanf(in, "%" SCNu64 " %zu %zu %511s %zu %" SCNu64 " %511s", &peak, &first, &end, source, &len, &number, after) == 7) {
+    while (in && read_format(in, named, &format)
+           && fscanf(in, "%" SCNu64 " %zu %zu %511s %zu %" SCNu64 " %511s", &peak, &first, &end, source, &len, &number, after) == 7) {
         line++;
         size_t bytes = read_bytes(source, row);
         memset(dst, UNWRITTEN, LONGEST);
         memset(expected, UNWRITTEN, LONGEST);
         if (strcmp(after, "same") != 0)
             read_bytes(after, expected);
-        must_match(convert(peak, row, bytes, dst, len, first, end) == number, file, line);
+        must_match(convert(peak, format, row, bytes, dst, len, first, end) == number, file, line);
         must_match(memcmp(dst, expected, LONGEST) == 0, file, line);
     }
     must_match(line > 0 && feof(in), file, line + 1);
     return line;
 }
 
-static unsigned test_pixels(const char *file, unsigned *left_out) {
+static unsigned test_pixels(const char *file, int named, unsigned *left_out) {
     FILE *in = fopen(file, "r");
     char first[32];
-    uint64_t peak, sample[3], code[3];
-    unsigned line = 0;
-    while (in && fscanf(in, "%" SCNu64 " %" SCNu64 " %" SCNu64 " %" SCNu64 " %31s %" SCNu64 " %" SCNu64,
-                        &peak, sample, sample + 1, sample + 2, first, code + 1, code + 2) == 7) {
+    uint64_t format, peak, sample[3], code[3];
+    unsigned line = 0, tried = 0;
+    while (in && read_format(in, named, &format)
+           && fscanf(in, "%" SCNu64 " %" SCNu64 " %" SCNu64 " %" SCNu64 " %31s %" SCNu64 " %" SCNu64,
+                     &peak, sample, sample + 1, sample + 2, first, code + 1, code + 2) == 7) {
         line++;
         if (sample[0] > 65535 || sample[1] > 65535 || sample[2] > 65535) {
             ++*left_out;
             continue;
         }
+        tried++;
         int refused = strcmp(first, "refused") == 0;
         code[0] = refused ? 0 : strtoull(first, NULL, 10);
         memset(dst, UNWRITTEN, 6);
@@ -79,19 +91,24 @@ static unsigned test_pixels(const char *file, unsigned *left_out) {
             expected[2 * i] = refused ? UNWRITTEN : (uint8_t)(code[i] >> 8);
             expected[2 * i + 1] = refused ? UNWRITTEN : (uint8_t)code[i];
         }
-        uint64_t number = pq_hlg_convert_row(peak, row, 6, dst, 6, 0, 1);
+        uint64_t number = pq_hlg_convert_row(peak, format, row, 6, dst, 6, 0, 1);
         must_match(number == (refused ? code[1] + 256 * code[2] : 0), file, line);
         must_match(memcmp(dst, expected, 6) == 0, file, line);
     }
     must_match(line > 0 && feof(in), file, line + 1);
-    return line - *left_out;
+    return tried;
 }
 
 int main(int argc, char **argv) {
-    if (argc != 4)
+    if (argc != 4 && argc != 7)
         return 2;
-    unsigned rows = test_rows(argv[1], pq_hlg_convert_row), ycbcr_rows = test_rows(argv[2], pq_hlg_convert_row_ycbcr);
-    unsigned left_out = 0, pixels = test_pixels(argv[3], &left_out);
+    unsigned rows = 0, ycbcr_rows = 0, pixels = 0, left_out = 0;
+    for (int named = 0; 3 * named + 3 < argc; named++) {
+        char **files = argv + 1 + 3 * named;
+        rows += test_rows(files[0], pq_hlg_convert_row, named);
+        ycbcr_rows += test_rows(files[1], pq_hlg_convert_row_ycbcr, named);
+        pixels += test_pixels(files[2], named, &left_out);
+    }
     printf("%u rows in RGB, %u in Y'CbCr and %u pixels as stored, %u left out\n", rows, ycbcr_rows, pixels, left_out);
     return 0;
 }

@@ -13,12 +13,14 @@ from collections import Counter
 from pathlib import Path
 from random import Random
 
-from tests.reference.cases import maxcll, title, word
+from tests.reference.cases import title, word
 from tests.reference.content_light import ENDS
+from tests.reference.format_cases import card as maxcll_card
 from tests.reference.light import light_of_code
 from tests.reference.row import PIXEL_BYTES, WIDEST, pixels_of, samples_of
+from tests.reference.sample_format import FORMATS, format_of
 from tests.reference.samples import draw_measured_row, draw_palette, draw_row, with_bad_samples
-from tests.reference.vectors import converted, measured, record_answer, record_line, record_question
+from tests.reference.vectors import converted, format_record_line, measured, record_answer, record_question
 
 BUILT = Path(__file__).resolve().parents[2] / "target" / "bin"
 FULL = {"titles": 60_000, "records": 60_000}
@@ -36,11 +38,11 @@ class Difference(Exception):
 
 
 def draw_card(random):
-    """A card: mostly sound, a field of 0 among the others, else with an unknown bit or a field out of range."""
-    bits, lot = random.randrange(8), random.random()
+    """A card of any format: mostly sound, a field of 0 among the others, else with an unknown bit or a field out of range."""
+    bits, lot = random.randrange(32), random.random()
     fields = [random.choice((0, 1, 1_000, 10_000, random.randint(1, 10_000))) for bit in (1, 2) if bits & bit]
     if lot < 0.03:
-        bits |= random.choice((8, 16, 32, 64, 128))
+        bits |= random.choice((32, 64, 128))
     elif lot < 0.07 and fields:
         fields[random.randrange(len(fields))] = random.choice((10_001, 65_535))
     return bytes([bits]) + b"".join(map(word, fields))
@@ -59,12 +61,14 @@ def draw_width(random):
 def draw_title(random):
     """A title. Rows are drawn from few codes, so that their brightest pixels are often equal."""
     card, width = draw_card(random), draw_width(random)
-    codes = random.choice((*[draw_palette(random)] * 4, *[range(4, 940)] * 3, range(4, 65), range(930, 1_020)))
+    form = format_of(card[0])
+    least, most, black, white = form.taken[0], form.taken[-1], form.black, form.white
+    codes = random.choice((*[draw_palette(random, form)] * 4, *[range(least, white)] * 3, range(least, black + 1), range(white - 10, most + 1)))
     rows = [draw_row(random, codes, width if width <= WIDEST else 1) for _ in range(random.choice((0, 1, 2, 3, 5, 8, 30) if width < 10 else (1, 2)))]
     lot = random.random()
     if rows and width and lot < 0.15:
         at = random.randrange(len(rows))
-        rows[at] = with_bad_samples(random, rows[at])
+        rows[at] = with_bad_samples(random, rows[at], form)
     data = title(card, width, *rows)
     if rows and width and 0.10 < lot < 0.22:
         return data[:-random.randrange(1, len(rows[-1]))]
@@ -98,13 +102,14 @@ def opening_length(data):
 
 def brightest(data):
     """How many pixels of a sound title have its largest light."""
-    lights = [max(map(light_of_code, pixel)) for pixel in pixels_of(samples_of(data[opening_length(data):]))]
+    form = format_of(data[0])
+    lights = [light_of_code(max(pixel), form) for pixel in pixels_of(samples_of(data[opening_length(data):]))]
     return lights.count(max(lights))
 
 
 def compare_titles(random, count, built):
     """Titles through `measure`, the cheap ones also through `convert`; half of these with the measured peak on the card."""
-    seen, equal, conversions, pixels = Counter(), 0, 0, 0
+    seen, forms, equal, conversions, pixels = Counter(), Counter(), 0, 0, 0
     for number in range(count):
         data = draw_title(random)
         owed = measured(data)
@@ -112,17 +117,20 @@ def compare_titles(random, count, built):
         refused = owed.startswith(b"refused")
         seen[owed.decode().strip() if refused else "measured"] += 1
         if not refused:
+            forms[format_of(data[0])] += 1
             equal += brightest(data) > 1
             pixels += (len(data) - opening_length(data)) // PIXEL_BYTES
         if number % 4 == 0 and len(data) <= PIXEL_BYTES * CHEAP:
             if not refused and number % 8 == 0:
-                data = maxcll(int(owed.split()[0])) + data[opening_length(data) - 2:]
+                data = maxcll_card(format_of(data[0]), int(owed.split()[0])) + data[opening_length(data) - 2:]
             hold(built, "convert", data, converted(data))
             conversions += 1
     print(f"titles: {count:,} measured as they should be, {pixels:,} pixels; {counts(seen)}; of those measured {equal:,} have several brightest "
           f"pixels; {conversions:,} converted too")
     if set(seen) != ANSWERS:
         raise Difference(f"titles: not every answer occurred, but {sorted(seen)}")
+    if set(forms) != set(FORMATS):
+        raise Difference(f"titles: not every format was measured, but {sorted(forms)}")
     if 3 * equal < seen["measured"]:
         raise Difference(f"titles: equal brightest pixels are rare, {equal} of {seen['measured']}")
 
@@ -133,20 +141,23 @@ def draw_field(random, end):
                           random.randrange(2**64), 2**64 - 1))
 
 
-def draw_record(random, codes):
+def draw_record(random, codes, form):
     """Five fields; the position often at or beside that of one of the row's codes, the rows seldom at their end."""
     rows, pixels, position, row, pixel = (draw_field(random, end) for end in ENDS)
     if random.random() < 0.7:
-        position = max(0, 1_024 * (min(max(random.choice(codes), 64), 940) - 64) + random.choice((-1, 0, 0, 0, 1)))
+        position = max(0, form.position(random.choice(codes)) + random.choice((-1, 0, 0, 0, 1)))
     if random.random() < 0.7:
         rows = random.randrange(1_000)
     return rows, random.choice((pixels, 0, 1)), position, row, pixel
 
 
 def draw_question(random):
-    """A record and a row, which may be refused."""
-    codes = draw_palette(random)
-    return draw_record(random, codes), draw_measured_row(random, codes, random.choice((0, 1, 1, 2, 4, 7)))
+    """The number of a format, a record and a row, which may be refused. The record's position is often that of a row in another format."""
+    number = random.randrange(256)
+    form, before = format_of(number), random.choice(FORMATS)
+    codes = draw_palette(random, form)
+    record = draw_record(random, codes, form) if random.randrange(3) else draw_record(random, draw_palette(random, before), before)
+    return number, record, draw_measured_row(random, codes, random.choice((0, 1, 1, 2, 4, 7)), form)
 
 
 def compare_records(random, count, built):
@@ -158,7 +169,7 @@ def compare_records(random, count, built):
         for question, line in zip(questions, [*given, *[None] * (len(questions) - len(given))]):
             owed = record_answer(*question)
             if line != owed:
-                raise Difference(f"record_vectors answered {line!r}, should be {owed!r}: {record_line(*question, '')}")
+                raise Difference(f"record_vectors answered {line!r}, should be {owed!r}: {format_record_line(*question, '')}")
             for part in owed.split(" : "):
                 seen[" ".join(part.split()[:2]) if part.startswith("refused") else "accepted"] += 1
         left -= len(questions)

@@ -52,11 +52,15 @@ def refused_cards():
     """Refusals 1 to 4; a good width and row follow, so that nothing else is wrong."""
     good = word(1) + row(WHITE)
     yield "empty", b""
-    for bit in range(3, 8):
+    for bit in range(5, 8):
         yield f"reserved_bit_{bit}", bytes([1 << bit]) + good
-    yield "reserved_bit_3_alone", b"\x08"
+    yield "reserved_bit_6_alone", b"\x40"
     yield "reserved_bit_7_with_maxcll_cut", b"\x81\x03"
-    yield "reserved_bit_4_with_maxcll_zero", b"\x11\x00\x00" + good
+    yield "reserved_bit_5_with_maxcll_zero", b"\x21\x00\x00" + good
+    yield "reserved_bit_5_with_twelve_bits", b"\x28" + good
+    yield "reserved_bit_6_with_full_range", b"\x50" + good
+    yield "reserved_bit_7_with_twelve_bits_full_range", b"\x98" + good
+    yield "reserved_bit_7_with_all_others", b"\x9f" + word(1_000) + word(2_000) + good
     yield "card_cut_before_maxcll", b"\x01"
     yield "card_cut_in_maxcll", b"\x01\x03"
     yield "card_cut_before_mastering_peak", b"\x02"
@@ -221,12 +225,16 @@ def cards():
         yield bytes([bits]) + word(1_000) + word(2_000) + b"\x77"
     for name, data in (*refused_cards(), *named_peaks()):
         yield data[:8]
-    for bits in range(8):
+    for bits in range(32):
         for first, second in ((1, 10_000), (10_000, 1), (0, 1), (1, 0), (10_001, 1), (1, 10_001), (256, 257),
                               (0, 0), (0, 10_000), (10_000, 0), (0, 10_001), (10_001, 0)):
             yield bytes([bits]) + word(first) + word(second)
         for length in range(6):
             yield (bytes([bits]) + word(1_234) + word(5_678))[:length]
+    # 2 comes before 3 and 4, with bits 3 and 4 and without them
+    for bits in (0x21, 0x2B, 0x33, 0x5A, 0x9F, 0xE3, 0xFF):
+        for length in (1, 2, 4):
+            yield (bytes([bits]) + word(10_001) + word(0))[:length]
 
 
 def row_calls():

@@ -1,4 +1,4 @@
-"""Every number that document 01 and requests 01 to 05 name, and the laws between their parts.
+"""Every number that document 01 and requests 01 to 06 name, and the laws between their parts.
 
     python3 -m tests.reference.check
 
@@ -17,15 +17,17 @@ from math import gcd, isqrt
 from pathlib import Path
 from random import Random
 
-from . import content_light, curve, exact, hlg, light, measure, metadata, program, row
+from . import content_light, curve, exact, hlg, light, measure, metadata, program, row, sample_format
 from .cases import CORNER_CODES, CORNERS, UNIT_PIXELS, row as row_bytes, row_calls, title, word, ycbcr_codes
-from .light import A, BRIGHTEST, END, LAST, N, P
+from .format_cases import LIMITS, POSITION_PIXELS, UNREAD, format_row_calls
+from .light import A, BRIGHTEST, END, LAST, N, P, STEPS
 from .pixel import convert_pixel, hlg_codes, mapped_components
 from .refusal import Refused
 from .row import MOST_ROWS
 from .rounding import power, power_below
+from .sample_format import FORMATS, FULL_RANGE, TEN_FULL, TEN_NARROW, TWELVE_BITS, TWELVE_FULL, TWELVE_NARROW, Format, format_of
 from .samples import MARKED_PEAKS, draw_measured_row, draw_palette, draw_peaks, draw_pixel
-from .survey import held_to_nine_sixteenths, quick_distance
+from .survey import bound, in_inner_zone, near_enough, quick_distance
 from .vectors import FILL, converted, measured
 from .ycbcr import by_fractions, convert_codes, luma_sum, round_away, unrounded, ycbcr
 
@@ -98,13 +100,19 @@ def exact_entries():
     return [exact.pq_eotf(Decimal(k) / LAST) * N for k in range(LAST + 1)]
 
 
+def forget_codes():
+    """What is kept of codes is made anew."""
+    light.light_of_code.cache_clear()
+    curve.bend_code.cache_clear()
+
+
 @contextmanager
 def table_rounded_down():
     """The light table as document 01 has it without request 05, for a while."""
     def change(table):
         light.P = table
         curve.position_of_peak.cache_clear()
-        curve.bend_code.cache_clear()
+        forget_codes()
     change(tuple(map(int, exact_entries())))
     try:
         yield light.P
@@ -119,7 +127,7 @@ def nearest_light():
 
     def answers():
         return ([light.position_of(L * N) for L in range(1, 10_001)],
-                [content_light.measure([row_bytes(grey(D))]) for D in range(4, 1_020)],
+                [one_pixel(*grey(D)) for D in range(4, 1_020)],
                 {(L, pixel): hlg_codes(L, pixel) for L, pixels in UNIT_PIXELS.items() for pixel in pixels})
     peaks, measured_peaks, codes = answers()
     with table_rounded_down() as lower:
@@ -339,14 +347,14 @@ def declared(text):
 
 def cards():
     answers = (
-        ("", (1, 0)), ("08", (2, 0)), ("80", (2, 0)), ("09", (2, 0)), ("01", (3, 0)), ("0103", (3, 0)), ("0303e8", (3, 0)), ("032711", (3, 0)),
+        ("", (1, 0)), ("20", (2, 0)), ("80", (2, 0)), ("21", (2, 0)), ("01", (3, 0)), ("0103", (3, 0)), ("0303e8", (3, 0)), ("032711", (3, 0)),
         ("012711", (4, 0)), ("0303e82711", (4, 0)), ("0103e8", 1_000), ("020fa0", 4_000), ("0303e80fa0", 1_000), ("04", 10_000),
         ("060fa0", 4_000), ("0507d0", 2_000), ("0703e80fa0", 1_000), ("00", 4_000), ("010001", 1), ("012710", 10_000))
     for text, answer in answers:
         yield f"card {text or 'empty'}: {answer}", declared(text) == answer
     yield "what follows a card", metadata.after_metadata(bytes.fromhex("0303e80fa0c0ffee")) == b"\xc0\xff\xee"
     yield "nothing follows a refused card", all(
-        metadata.after_metadata(bytes.fromhex(text)) == b"" for text in ("", "08ff", "0103", "012711ff"))
+        metadata.after_metadata(bytes.fromhex(text)) == b"" for text in ("", "20ff", "0103", "012711ff"))
 
 
 def zero_fields():
@@ -372,7 +380,7 @@ def rows():
     for first in range(9):
         for end in range(first, 9):
             destination = bytearray([FILL]) * len(data)
-            number = row.c_number(1_000, data, destination, first, end)
+            number = row.c_number(1_000, 0, data, destination, first, end)
             wanted = bytearray([FILL]) * len(data)
             wanted[6 * first:6 * end] = whole[6 * first:6 * end]
             yield f"pixels {first} to {end}: these places and no others", (number, destination) == (0, wanted)
@@ -385,7 +393,7 @@ def rows():
         (0, 1, b"", 0, 0, 0), (8, 1, b"", 0, 0, 1), (7, 1, b"", 6, 0, 0))
     for number, peak, given, length, first, end in calls:
         destination = bytearray([FILL]) * length
-        answer = row.c_number(peak, given, destination, first, end)
+        answer = row.c_number(peak, 0, given, destination, first, end)
         yield f"C number {number}: {len(given)} bytes, pixels {first} to {end}", answer == number
         yield f"C number {number}: nothing is written by a refusal", (
             number == 0 or destination == bytearray([FILL]) * length)
@@ -422,18 +430,23 @@ def program_answers():
 
 # Request 01: the measuring run
 
-def one_pixel(*codes):
+def narrow(*rows):
+    """Rows of ten-bit narrow range, as the measuring run takes them."""
+    return [(data, TEN_NARROW) for data in rows]
+
+
+def one_pixel(*codes, form=TEN_NARROW):
     """What a list of one row of one pixel measures."""
-    return content_light.measure([row_bytes(codes)])
+    return content_light.measure([(row_bytes(codes), form)])
 
 
 def steps(record, rows):
     """The run by its record: the record after the rows, and of each row its refusal or None."""
     refused = []
-    for data in rows:
-        refused.append(refusal(content_light.measure_row, record, data))
+    for data, form in rows:
+        refused.append(refusal(content_light.measure_row, record, data, form))
         if refused[-1] is None:
-            record = content_light.measure_row(record, data)
+            record = content_light.measure_row(record, data, form)
     return record, refused
 
 
@@ -441,7 +454,7 @@ def both_ways(rows, empty=0):
     """Whether list and record agree on the refusals and on the result, after so many rows of no pixel."""
     listed = [each and (each.number, each.place) for each in content_light.refusals(rows, empty)]
     record, refused = steps(content_light.Record(rows=empty), rows)
-    accepted = [len(data) // 6 for data, each in zip(rows, refused) if each is None]
+    accepted = [len(data) // 6 for (data, _), each in zip(rows, refused) if each is None]
     return (listed == refused and (record.rows, record.pixels) == (empty + len(accepted), sum(accepted))
             and outcome(content_light.measure, rows, empty) == outcome(content_light.measured_peak, record))
 
@@ -457,15 +470,17 @@ def measured_numbers():
             one_pixel(*codes) == (peak, 0, 0) for codes in (grey(D), (D, 4, 64), (64, D, 4), (4, 64, D)))
     yield "722 has 993.73 cd/m2 and 723 has 1,004.19", [round(light.light_of_code(D) / N, 2) for D in (722, 723)] == [993.73, 1_004.19]
     dim, bright = grey(509), grey(800)
-    yield "the first of equal pixels in a row", content_light.measure([row_bytes(dim, bright, dim, bright)]) == (2_249, 0, 1)
-    yield "the first of equal rows", content_light.measure([row_bytes(dim, dim), row_bytes(dim, bright), row_bytes(bright, dim)]) == (2_249, 1, 1)
+    yield "the first of equal pixels in a row", content_light.measure(narrow(row_bytes(dim, bright, dim, bright))) == (2_249, 0, 1)
+    yield "the first of equal rows", content_light.measure(
+        narrow(row_bytes(dim, dim), row_bytes(dim, bright), row_bytes(bright, dim))) == (2_249, 1, 1)
     yield "super-whites tie with 940, sub-blacks with 64", (
-        content_light.measure([row_bytes(grey(940), grey(1_019))]) == (10_000, 0, 0)
-        and content_light.measure([row_bytes(grey(4), grey(64))]) == (0, 0, 0))
-    yield "a refused row is not numbered", content_light.measure([b"", row_bytes(grey(3)), b"\0", row_bytes(dim)]) == (100, 1, 0) == (
-        content_light.measured_peak(steps(content_light.Record(), [b"", row_bytes(grey(3)), b"\0", row_bytes(dim)])[0]))
+        content_light.measure(narrow(row_bytes(grey(940), grey(1_019)))) == (10_000, 0, 0)
+        and content_light.measure(narrow(row_bytes(grey(4), grey(64)))) == (0, 0, 0))
+    some = narrow(b"", row_bytes(grey(3)), b"\0", row_bytes(dim))
+    yield "a refused row is not numbered", content_light.measure(some) == (100, 1, 0) == (
+        content_light.measured_peak(steps(content_light.Record(), some)[0]))
     yield "no pixel: refusal 12, also after rows of none and refused ones", all(
-        refusal(content_light.measure, rows) == (12, 0) for rows in ([], [b""], [b"", b"\0"], [row_bytes(grey(3))]))
+        refusal(content_light.measure, narrow(*rows)) == (12, 0) for rows in ([], [b""], [b"", b"\0"], [row_bytes(grey(3))]))
     yield "a fresh record has no pixel", refusal(content_light.measured_peak, content_light.Record()) == (12, 0)
 
 
@@ -481,32 +496,46 @@ def measured_refusals():
     yield "that row is the last one", content_light.measure_row(before, row_bytes(grey(65)))[:4:3] == (MOST_ROWS, MOST_ROWS - 1)
 
 
-def draw_list(random):
-    """A list of rows, empty and refused ones among them."""
-    codes = draw_palette(random)
-    return [draw_measured_row(random, codes, random.choice((0, 1, 1, 2, 3, 5))) for _ in range(random.randrange(9))]
+def draw_list(random, forms):
+    """A list of rows in any of some formats, empty and refused ones among them."""
+    codes = {form: draw_palette(random, form) for form in forms}
+    drawn = [random.choice(forms) for _ in range(random.randrange(9))]
+    return [(draw_measured_row(random, codes[form], random.choice((0, 1, 1, 2, 3, 5)), form), form) for form in drawn]
 
 
 def measured_lists():
     random = Random(6)
-    lists = [draw_list(random) for _ in range(2_000)]
+    yield from laws_of_lists(random, [draw_list(random, [form]) for form in FORMATS for _ in range(500)])
+
+
+def mixed_lists():
+    """Request 06: rows of one run may differ in format."""
+    random = Random(10)
+    yield from laws_of_lists(random, [draw_list(random, FORMATS) for _ in range(1_500)])
+
+
+def laws_of_lists(random, lists):
     yield "the record gives what the whole list gives, refusals included", all(map(both_ways, lists))
     yield "also where the rows come to their end", all(both_ways(rows, MOST_ROWS - random.randrange(7)) for rows in lists)
-    sound = [[data for data, each in zip(rows, content_light.refusals(rows)) if each is None] for rows in lists]
+    sound = [[each for each, refused in zip(rows, content_light.refusals(rows)) if refused is None] for rows in lists]
     yield "refused rows change nothing", all(
         outcome(content_light.measure, rows) == outcome(content_light.measure, kept) for rows, kept in zip(lists, sound))
-    peaks = [(outcome(content_light.measure, rows)[0], [pixel for data in rows for pixel in row.pixels_of(row.samples_of(data))])
-             for rows in sound if any(rows)]
+    peaks = [(outcome(content_light.measure, rows)[0], [(max(pixel), form) for data, form in rows for pixel in row.pixels_of(row.samples_of(data))])
+             for rows in sound if any(data for data, _ in rows)]
     yield "the peak is the least whole cd/m2 that no light exceeds", all(
-        (L - 1) * N < max(light.light_of_code(max(pixel)) for pixel in pixels) <= L * N for L, pixels in peaks)
+        (L - 1) * N < max(light.light_of_code(*code) for code in codes) <= L * N for L, codes in peaks)
     yield "no pixel lies above a measured peak from 1 up, by light and by position", all(
-        light.light_of_code(D) <= L * N and curve.position_of_code(D) <= curve.position_of_peak(L)
-        for L, pixels in peaks if L for D in map(max, pixels))
-    each = [(D, one_pixel(*grey(D))[0]) for D in range(4, 1_020)]
-    yield "the same for each code that can be the brightest; the row call takes the peak", all(
-        light.light_of_code(D) <= L * N and curve.position_of_code(D) <= curve.position_of_peak(L)
-        and refusal(convert_pixel, L, grey(D)) is None for D, L in each if L)
-    yield "only black measures 0, nothing more than 10,000", all((L == 0) == (D <= 64) and L <= 10_000 for D, L in each)
+        light.light_of_code(*code) <= L * N and curve.position_of_code(*code) <= curve.position_of_peak(L)
+        for L, codes in peaks if L for code in codes)
+
+
+def measured_codes():
+    for form in FORMATS:
+        each = [(D, one_pixel(*grey(D), form=form)[0]) for D in form.taken]
+        yield f"{form}: no code that is the brightest lies above its peak; the row call takes that", all(
+            light.light_of_code(D, form) <= L * N and curve.position_of_code(D, form) <= curve.position_of_peak(L)
+            and refusal(convert_pixel, L, grey(D), form) is None for D, L in each if L)
+        yield f"{form}: only black measures 0, nothing more than 10,000", all((L == 0) == (D <= form.black) and L <= 10_000 for D, L in each)
 
 
 def measured_records():
@@ -532,7 +561,7 @@ def measure_answers():
     white, brighter = row_bytes(grey(723)), row_bytes(grey(800))
     cut, bad = white[:5], row_bytes((64, 3, 64))
     answers = (
-        ("no input", b"", "refused 1"), ("an unknown bit", b"\x08", "refused 2"), ("a cut card", b"\x01", "refused 3"),
+        ("no input", b"", "refused 1"), ("an unknown bit", b"\x20", "refused 2"), ("a cut card", b"\x01", "refused 3"),
         ("a field above 10,000", b"\x01\x27\x11", "refused 4"), ("no width", card, "refused 10"), ("width 0", title(card, 0), "refused 10"),
         ("a field of 0 and no width", b"\x01\0\0", "refused 10"), ("a field of 0", title(b"\x01\0\0", 1, white), "1005 0 0"),
         ("no rows", title(card, 8_192), "refused 12"), ("a cut row", title(card, 1, white, cut), "refused 11"),
@@ -647,58 +676,234 @@ def code_refusals():
         refusal(convert_codes, hlg_codes(L, pixel)) is None for L in (1, 1_000, 10_000) for pixel in (*CORNERS, grey(4), grey(1_019), (4, 4, 1_019)))
 
 
-def alike(L, data, length, first, end):
+def alike(L, data, length, first, end, form=0):
     """Whether both row calls give one number, and the second luma, Cb and Cr of the codes that the first writes, in their places."""
     codes, made = (bytearray([FILL]) * length for _ in range(2))
-    number = row.c_number(L, data, codes, first, end)
+    number = row.c_number(L, form, data, codes, first, end)
     if number == 0:
         span = slice(6 * first, 6 * end)
         codes[span] = row_bytes(*map(convert_codes, row.pixels_of(row.samples_of(codes[span]))))
-    return (number, codes) == (row.c_number(L, data, made, first, end, ycbcr), made)
+    return (number, codes) == (row.c_number(L, form, data, made, first, end, ycbcr), made)
 
 
 def ycbcr_rows():
     data, made = row_bytes(*CORNERS), bytearray(48)
-    number = row.c_number(1_000, data, made, 0, 8, ycbcr)
+    number = row.c_number(1_000, 0, data, made, 0, 8, ycbcr)
     yield "document 002's corners as a row", (number, made) == (0, row_bytes(*map(convert_codes, CORNER_CODES)))
     random = Random(9)
     drawn = [(L, row_bytes(*(draw_pixel(random, L) for _ in range(8))), 48, random.randrange(4), random.randrange(4, 9))
              for L in draw_peaks(random, 100)]
     yield "both calls start from the same RGB codes", all(alike(*call) for call in drawn)
     yield "both calls refuse alike, and write nothing then", all(alike(*call) for call in row_calls())
+    yield "also in every format", all(alike(*call, form) for form, *call in format_row_calls())
+
+
+# Request 06: depth and range
+
+def all_codes():
+    """Every code of every format that is taken."""
+    return [(D, form) for form in FORMATS for D in form.taken]
+
+
+def formats():
+    yield "positions of codes are those of lights", sample_format.POSITIONS == END
+    for form, (n, full, number) in zip(FORMATS, ((10, False, 0), (12, False, 8), (10, True, 16), (12, True, 24))):
+        yield f"{form}: depth, range and number", form == Format(n, full) and form.number == number and format_of(number) == form
+    for form in (TEN_NARROW, TWELVE_NARROW):        # BT.2100's narrow range of n bits
+        unit = 2**(form.bits - 8)
+        yield f"{form}: from black to the nominal peak", (form.black, form.white) == (16 * unit, 235 * unit)
+        yield f"{form}: all but the codes kept for timing are taken", (form.taken[0], form.taken[-1]) == (unit, 255 * unit - 1)
+    for form in (TEN_FULL, TWELVE_FULL):
+        yield f"{form}: every code is taken, and none is beyond black or the nominal peak", form.taken == form.nominal == range(2**form.bits)
+    for form in FORMATS:
+        black, white = form.black, form.white
+        yield f"{form}: a signal is the code's share of the way from black to the nominal peak", all(
+            form.signal(D) == Fraction(D - black, white - black) for D in form.nominal)
+        yield f"{form}: codes beyond these read as these", all(
+            form.read(D) == (black if D < black else white if D > white else D) for D in (*form.taken, 0, 2**form.bits, 2**16, 2**64 - 1))
+        yield f"{form}: a position is the signal's, rounded down", all(
+            form.position(D) == (END * form.signal(D)).__floor__() for D in (*form.taken, 0, 2**64 - 1))
+        yield f"{form}: the signal lies from its position up to the next one", all(
+            Fraction(q, END) <= form.signal(D) < Fraction(q + 1, END) for D in form.taken for q in [form.position(D)])
+        yield f"{form}: positions grow from 0 to the last", (form.position(black), form.position(white)) == (0, END) and all(
+            form.position(D) < form.position(D + 1) for D in form.nominal[:-1])
+        yield f"{form}: a light is that at the code's position", all(
+            light.light_of_code(D, form) == light.light_at(form.position(D)) for D in form.taken)
+        yield f"{form}: the ends have no light and all of it", (light.light_of_code(black, form), light.light_of_code(white, form)) == (0, BRIGHTEST)
+    yield "narrow codes stand at entries of the light table, every fourth of ten bits and each of twelve", (
+        all(form.position(D) % STEPS == 0 for D, form in all_codes() if not form.full)
+        and all(light.light_of_code(D) == P[4 * (D - 64)] for D in TEN_NARROW.nominal)
+        and all(light.light_of_code(D, TWELVE_NARROW) == P[D - 256] for D in TWELVE_NARROW.nominal))
+    rest = {form: [part for D in form.taken for part in [END * form.signal(D) - form.position(D)] if part] for form in FORMATS}
+    yield "full codes mostly don't: a rest is left", (
+        [len(rest[form]) for form in FORMATS] == [0, 0, 1_020, 4_092] and max(rest[TWELVE_FULL]) > Fraction(99, 100))
+    yield "thirds of the signal are codes of both depths in full range", all(
+        TEN_FULL.position(341 * i) == TWELVE_FULL.position(1_365 * i) == i * END // 3 for i in range(4))
+
+
+def order_of_codes():
+    """Light and position order codes of all formats alike, so that a record may hold either."""
+    positions = sorted({form.position(D) for D, form in all_codes()})
+    lights = [light.light_at(q) for q in positions]
+    yield "lights of codes rise with their positions, whatever their formats", all(low < high for low, high in zip(lights, lights[1:]))
+    yield "the position just below a code's has less light", all(light.light_at(q - 1) < lit for q, lit in zip(positions, lights) if q)
+    yield "1,000 cd/m2 lies between codes 722 and 723, 2,890 and 2,891, 769 and 770, 3,078 and 3,079", all(
+        light.light_of_code(D, form) < A < light.light_of_code(D + 1, form) for D, form in zip((722, 2_890, 769, 3_078), FORMATS))
+    w = curve.position_of_peak(4_000)
+    yield "peak 4,000: the knee lies after codes 656, 2,626, 692 and 2,770", all(
+        curve.below_knee(form.position(D), w) and not curve.below_knee(form.position(D + 1), w) for D, form in zip((656, 2_626, 692, 2_770), FORMATS))
+
+
+@contextmanager
+def positions_by(position):
+    """Codes at other positions, for a while."""
+    kept = Format.position
+    Format.position = position
+    forget_codes()
+    try:
+        yield
+    finally:
+        Format.position = kept
+        forget_codes()
+
+
+def format_codes():
+    random = Random(11)
+    cases = [(L, draw_pixel(random, L)) for L in draw_peaks(random, 60) for _ in range(20)]
+    yield "four times the codes in twelve-bit narrow range give the same", all(
+        hlg_codes(L, pixel) == hlg_codes(L, [4 * D for D in pixel], TWELVE_NARROW) for L, pixel in cases)
+    for form in FORMATS:
+        yield f"{form}: white under a peak of 10,000 and of 1,000, and black", [
+            convert_pixel(L, grey(D), form) for L, D in ((10_000, form.white), (1_000, form.white), (1_000, form.black))] == [
+            grey(940), grey(940), grey(64)]
+        yield f"{form}: the first red above 1,000 cd/m2 is 976 64 64", convert_pixel(
+            1_000, (curve_start(form), form.black, form.black), form) == (976, 64, 64)
+    stored = {(form, L, pixel): hlg_codes(L, pixel, form) for form, peaks in POSITION_PIXELS.items() for L, pixels in peaks.items() for pixel in pixels}
+    with positions_by(lambda form, D: -(-END * form.signal(D) // 1)):
+        higher = {(form, L, pixel): hlg_codes(L, pixel, form) for form, L, pixel in stored}
+    yield "each stored pixel that hangs on a position has a code or two that move, by one, if positions are rounded up", all(
+        sorted(abs(c - d) for c, d in zip(stored[case], higher[case])) in ([0, 0, 1], [0, 1, 1], [1, 1, 1]) for case in stored)
+    with positions_by(lambda form, D: END * form.read(D) // 2**form.bits):
+        lower = [hlg_codes(L, pixel, form) for form, L, pixel in stored]
+    yield "half of them move if a full signal were the code 2^n", 2 * sum(map(tuple.__ne__, stored.values(), lower)) >= len(stored)
+
+
+def curve_start(form):
+    """The first code above 1,000 cd/m2."""
+    return next(D for D in form.nominal if light.light_of_code(D, form) > A)
+
+
+def format_limits():
+    limits = {TEN_NARROW: (4, 1_019), TWELVE_NARROW: (16, 4_079), TEN_FULL: (0, 1_023), TWELVE_FULL: (0, 4_095)}
+    for form, (least, most) in limits.items():
+        mid = form.nominal[300]
+        for D in LIMITS:
+            taken = least <= D <= most
+            yield f"{form}: code {D} is {'taken' if taken else 'refused'} at each place", all(
+                refusal(convert_pixel, 1_000, pixel, form) == (None if taken else (9, place))
+                for place, pixel in enumerate(((D, mid, mid), (mid, D, mid), (mid, mid, D))))
+        data = row_bytes(grey(mid), (mid, most + 1, mid), grey(most))
+        yield f"{form}: the row call and the measuring run refuse the same sample", (
+            row.c_number(1_000, form.number, data, bytearray(18), 0, 3) == 9 + 256 * 4
+            and refusal(content_light.measure_row, content_light.Record(), data, form) == (9, 4))
+        yield f"{form}: 5 comes before 9", refusal(convert_pixel, 0, grey(65_535), form) == (5, 0)
+
+
+def unread_bits():
+    yield "only bits 3 and 4 are read", all(
+        format_of(number | other) == format_of(number) for number in (0, 8, 16, 24) for bit in range(64) if bit not in (3, 4) for other in (0, 1 << bit))
+    yield "stored numbers with other bits stand for every format", {format_of(number) for number in UNREAD} == set(FORMATS) and not any(
+        number in (0, 8, 16, 24) for number in UNREAD)
+
+    def answered(number, call):
+        destination = bytearray([FILL]) * call[2]
+        return row.c_number(call[0], number, call[1], destination, *call[3:]), destination
+    calls = [call for _, *call in format_row_calls()]
+    yield "a row call gives the same with any of them", all(
+        answered(number, call) == answered(format_of(number).number, call) for number in UNREAD for call in calls[::7])
+
+
+def format_cards():
+    answers = (
+        ("08", (4_000, TWELVE_NARROW)), ("10", (4_000, TEN_FULL)), ("18", (4_000, TWELVE_FULL)), ("00", (4_000, TEN_NARROW)), ("1c", (10_000, TWELVE_FULL)),
+        ("0903e8", (1_000, TWELVE_NARROW)), ("120fa0", (4_000, TEN_FULL)), ("1f03e80fa0", (1_000, TWELVE_FULL)), ("1b000007d0", (2_000, TWELVE_FULL)),
+        ("110000", (4_000, TEN_FULL)), ("09", (3, 0)), ("1b03e8", (3, 0)), ("092711", (4, 0)), ("1803e8", (4_000, TWELVE_FULL)),
+        ("28", (2, 0)), ("38", (2, 0)), ("48", (2, 0)), ("9903", (2, 0)), ("f12711", (2, 0)))
+    for text, answer in answers:
+        yield f"card {text}: {answer}", outcome(metadata.source_of_metadata, bytes.fromhex(text)) == answer
+    tails = (b"", b"\0", word(0), word(1_000), word(10_001), word(1_000) + word(2_000) + b"\7")
+    yield "bits 3 and 4 say the format and change nothing else of a card", all(
+        outcome(metadata.peak_of_metadata, bytes([bits | form.number]) + tail) == outcome(metadata.peak_of_metadata, bytes([bits]) + tail)
+        and metadata.after_metadata(bytes([bits | form.number]) + tail) == metadata.after_metadata(bytes([bits]) + tail)
+        for bits in range(256) if not bits & (TWELVE_BITS | FULL_RANGE) for form in FORMATS for tail in tails)
+
+
+def format_titles():
+    for form, lines, peak in ((TEN_NARROW, b"913 913 913\n", 1_005), (TWELVE_NARROW, b"138 138 138\n", 1), (TEN_FULL, b"879 879 879\n", 661),
+                              (TWELVE_FULL, b"169 169 169\n", 2)):
+        data = title(bytes([form.number]), 1, row_bytes(grey(723)))
+        yield f"{form}: code 723 prints {lines!r} and measures {peak}", (
+            converted(data) == lines and measured(data) == b"%d 0 0\n" % peak)
+        refused = title(bytes([form.number]), 1, row_bytes(grey(500)), row_bytes(grey(form.taken[-1] + 1)))
+        yield f"{form}: a sample past the highest stops both programs", (
+            converted(refused).endswith(b"\nrefused 9\n") and measured(refused) == b"refused 9\n")
+
+
+def measured_formats():
+    first = row_bytes(grey(700)), TEN_NARROW
+    same = row_bytes(grey(2_800)), TWELVE_NARROW
+    more = row_bytes(grey(2_801)), TWELVE_NARROW
+    yield "rows of two formats tie by their lights", content_light.measure([first, same]) == content_light.measure([same, first]) == (790, 0, 0)
+    yield "and a brighter one takes over", content_light.measure([first, more]) == (792, 1, 0)
+    whites = [(row_bytes(grey(form.taken[-1])), form) for form in FORMATS]
+    blacks = [(row_bytes(grey(form.taken[0])), form) for form in FORMATS]
+    yield "the highest codes tie in all formats, and so do the lowest", all(
+        content_light.measure(rows[i:] + rows[:i]) == (peak, 0, 0) for rows, peak in ((whites, 10_000), (blacks, 0)) for i in range(4))
+    yield "a code beside a record's position, whatever made that", all(
+        content_light.measure_row(content_light.Record(1, 1, q + beside, 0, 0), row_bytes(grey(D)), form).row == (1 if beside < 0 else 0)
+        for form in FORMATS for D in form.nominal[1::37] for q in [form.position(D)] for beside in (-1, 0, 1))
 
 
 # Voted property 3
 
 def distance():
     random = Random(5)
-    cases = [(L, draw_pixel(random, L)) for L in draw_peaks(random, 120) for _ in range(100)]
+    for form in FORMATS:
+        inner, outer = (f"{'at most' if reached else 'less than'} {most}" for most, reached in (bound(True, form), bound(False, form)))
+        cases = [(L, draw_pixel(random, L, form)) for L in draw_peaks(random, 120) for _ in range(100 if form == TEN_NARROW else 40)]
 
-    def near_enough(distance, case):
-        return distance <= Decimal(9) / 16 if held_to_nine_sixteenths(*case) else distance < 2
-    yield "quick distances: at most 9/16 where voted, below 2 elsewhere", all(
-        near_enough(quick_distance(*case), case) for case in cases)
-    some = random.sample(cases, 400)
-    far = [max(exact.distances(L, pixel, hlg_codes(L, pixel))) for L, pixel in some]
-    yield "long decimals: the same", all(map(near_enough, far, some))
-    yield "doubles and long decimals agree", all(
-        abs(float(d) - quick_distance(*case)) < 1e-9 for d, case in zip(far, some))
-    yield "no mapped component exceeds 1,000 cd/m2", all(max(mapped_components(*case)) <= A for case in cases)
+        def allowed(distance, case):
+            return near_enough(distance, in_inner_zone(*case, form), form)
+        yield f"{form}: quick distances, {inner} in the inner zone, {outer} elsewhere", all(
+            allowed(quick_distance(*case, form), case) for case in cases)
+        some = random.sample(cases, 400 if form == TEN_NARROW else 200)
+        far = [max(exact.distances(L, pixel, hlg_codes(L, pixel, form), form)) for L, pixel in some]
+        yield f"{form}: long decimals say the same", all(map(allowed, far, some))
+        yield f"{form}: doubles and long decimals agree", all(
+            abs(float(d) - quick_distance(*case, form)) < 1e-9 for d, case in zip(far, some))
+        yield f"{form}: no mapped component exceeds 1,000 cd/m2", all(max(mapped_components(*case, form)) <= A for case in cases)
 
-    def ordered(L, pixel):
-        sorted_codes = tuple(sorted(pixel))
-        mapped = mapped_components(L, sorted_codes)
-        codes = hlg_codes(L, sorted_codes)
-        return list(mapped) == sorted(mapped) and list(codes) == sorted(codes)
-    yield "a brighter component stays at least as bright", all(ordered(*case) for case in cases)
-    yield "a black pixel has exact values 64", exact.exact_values(4_000, (4, 64, 30)) == (64, 64, 64)
+        def ordered(L, pixel):
+            sorted_codes = tuple(sorted(pixel))
+            mapped = mapped_components(L, sorted_codes, form)
+            codes = hlg_codes(L, sorted_codes, form)
+            return list(mapped) == sorted(mapped) and list(codes) == sorted(codes)
+        yield f"{form}: a brighter component stays at least as bright", all(ordered(*case) for case in cases)
+    yield "a black pixel has exact values 64", exact.exact_values(4_000, (4, 64, 30)) == exact.exact_values(4_000, (16, 256, 30), TWELVE_NARROW) == (
+        exact.exact_values(4_000, (0, 0, 0), TEN_FULL)) == (64, 64, 64)
+    yield "the zones are the same in all formats, and full range has wider bounds", [bound(inner, form) for form in FORMATS for inner in (True, False)] == [
+        (0.5625, True), (2, False), (0.5625, True), (2, False), (2, False), (4, False), (2, False), (4, False)]
+    farthest = quick_distance(1_000, (0, 1, 0), TWELVE_FULL)
+    yield "the dimmest green of twelve-bit full range lies 0.5201 away, farther than any narrow pixel found", 0.5201 < farthest < 0.5202
 
 
 def greys():
-    for L in MARKED_PEAKS:
-        codes = [hlg_codes(L, grey(D)) for D in range(4, 1_020)]
-        yield f"peak {L}: greys stay grey", all(len(set(three)) == 1 for three in codes)
-        yield f"peak {L}: greys never fall", all(min(high) >= max(low) for low, high in zip(codes, codes[1:]))
+    some = 1, 1_000, 1_001, 4_000, 10_000
+    for form, peaks in ((TEN_NARROW, MARKED_PEAKS), (TWELVE_NARROW, some[1::2]), (TEN_FULL, some), (TWELVE_FULL, some[1::2])):
+        for L in peaks:
+            codes = [hlg_codes(L, grey(D), form) for D in form.taken]
+            yield f"{form}, peak {L}: greys stay grey", all(len(set(three)) == 1 for three in codes)
+            yield f"{form}, peak {L}: greys never fall", all(min(high) >= max(low) for low, high in zip(codes, codes[1:]))
 
 
 def traps():
@@ -718,7 +923,8 @@ def traps():
 
 LAWS = (light_table, nearest_light, light_of_codes, positions, spline_is_hermite, highlight_curve, published_patches, hlg_steps,
         hlg_code, shorter_products, published_constants, published_table, corner_pixels, other_examples, cards, zero_fields, rows, program_answers,
-        measured_numbers, measured_refusals, measured_lists, measured_records, measure_answers,
+        measured_numbers, measured_refusals, measured_lists, measured_codes, measured_records, measure_answers,
+        formats, order_of_codes, format_codes, format_limits, unread_bits, format_cards, format_titles, measured_formats, mixed_lists,
         published_ycbcr, rounding_away, ycbcr_of_codes, halves_of_luma, halves_of_chroma, code_refusals, ycbcr_rows, distance, greys, traps)
 
 

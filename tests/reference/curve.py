@@ -1,4 +1,4 @@
-"""Document 01, "The highlight curve": M2 from the brightest light, and the scaling by it.
+"""Document 01, "The highlight curve", with request 06: M2 from the brightest light, and the scaling by it.
 
 The curve works on positions (PQ signals), the scaling on lights. t is the
 position of 1,000 cd/m2, w that of the declared peak.
@@ -6,14 +6,15 @@ position of 1,000 cd/m2, w that of the declared peak.
 
 from functools import lru_cache
 
-from .light import A, BRIGHTEST, END, N, code_read, light_at, light_of_code, position_of
+from .light import A, BRIGHTEST, END, N, light_at, light_of_code, position_of
+from .sample_format import TEN_NARROW
 
 t = position_of(A)
 
 
-def position_of_code(D):
-    """m of a brightest code; 1,024 positions to a code."""
-    return 1_024 * (code_read(D) - 64)
+def position_of_code(D, form=TEN_NARROW):
+    """m of a brightest code."""
+    return form.position(D)
 
 
 @lru_cache(maxsize=None)
@@ -43,10 +44,10 @@ def bend(M1, m, L):
 
 
 @lru_cache(maxsize=None)
-def bend_code(D, L):
+def bend_code(D, L, form=TEN_NARROW):
     """M1 and M2 of a pixel whose brightest code is D."""
-    M1 = light_of_code(D)
-    return M1, bend(M1, position_of_code(D), L)
+    M1 = light_of_code(D, form)
+    return M1, bend(M1, position_of_code(D, form), L)
 
 
 def scale(c, M2, M1):

@@ -1,4 +1,4 @@
-"""Document 01, "The exact value": the published formulas without tables, in long decimals.
+"""Document 01, "The exact value", with request 06: the published formulas without tables, in long decimals.
 
 80 digits are carried; the stages lose a few of them, so that far more than 50 hold.
 Light is in cd/m2 here, signals run from 0 to 1, and 1.0 is the full scene light.
@@ -7,7 +7,7 @@ Light is in cd/m2 here, signals run from 0 to 1, and 1.0 is the full scene light
 from decimal import Context, Decimal, localcontext
 from functools import lru_cache, wraps
 
-from .light import code_read
+from .sample_format import TEN_NARROW
 
 LONG = Context(prec=80)
 m1, m2 = Decimal("0.1593017578125"), Decimal("78.84375")
@@ -48,9 +48,10 @@ def pq_inverse_eotf(light):
 
 @lru_cache(maxsize=None)
 @long_decimals
-def signal_of_code(D):
-    """PQ signal of a ten-bit code as read."""
-    return Decimal(code_read(D) - 64) / 876
+def signal_of_code(D, form=TEN_NARROW):
+    """PQ signal of a code as read."""
+    signal = form.signal(D)
+    return Decimal(signal.numerator) / signal.denominator
 
 
 @long_decimals
@@ -92,9 +93,9 @@ def exact_values_of_lights(lights):
 
 
 @long_decimals
-def exact_values(L, pixel):
+def exact_values(L, pixel, form=TEN_NARROW):
     """The exact values of a pixel's three codes under the peak L."""
-    signals = [signal_of_code(D) for D in pixel]
+    signals = [signal_of_code(D, form) for D in pixel]
     brightest = max(signals)
     if brightest == 0:
         return (Decimal(64),) * 3
@@ -103,6 +104,6 @@ def exact_values(L, pixel):
 
 
 @long_decimals
-def distances(L, pixel, codes):
+def distances(L, pixel, codes, form=TEN_NARROW):
     """How far each HLG code lies from its exact value, in codes."""
-    return tuple(abs(code - exact) for code, exact in zip(codes, exact_values(L, pixel)))
+    return tuple(abs(code - exact) for code, exact in zip(codes, exact_values(L, pixel, form)))

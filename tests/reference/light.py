@@ -1,4 +1,4 @@
-"""Document 01, "Light", with request 05: the light table, the light of a code, positions.
+"""Document 01, "Light", with requests 05 and 06: the light table, the light of a code, positions.
 
 Display light is a whole number of units, N units to 1 cd/m2. Signals are PQ
 signals from 0 to 1; a position counts them in 1/897,024.
@@ -6,8 +6,10 @@ signals from 0 to 1; a position counts them in 1/897,024.
 
 from bisect import bisect_right
 from decimal import ROUND_HALF_UP, Context, Decimal
+from functools import lru_cache
 
 from .rounding import Undecided, power_below
+from .sample_format import TEN_NARROW
 
 N = 16_777_216                 # units in 1 cd/m2
 A = 1_000 * N                  # the light of 1,000 cd/m2
@@ -75,22 +77,18 @@ def light_entry(k):
     return P[min(k, LAST)]
 
 
-def code_read(D):
-    """A code as it is read: sub-blacks as 64, super-whites as 940."""
-    return min(max(D, 64), 940)
-
-
-def light_of_code(D):
-    """The light of a PQ code."""
-    return P[4 * (code_read(D) - 64)]
-
-
 def light_at(q):
     """The light at a position: between two entries on a straight line, rounded down."""
     if q >= END:
         return P[LAST]
     k, f = divmod(q, STEPS)
     return P[k] + (P[k + 1] - P[k]) * f // STEPS
+
+
+@lru_cache(maxsize=None)
+def light_of_code(D, form=TEN_NARROW):
+    """The light of a PQ code: that at its position."""
+    return light_at(form.position(D))
 
 
 def position_of(light):

@@ -12,10 +12,11 @@ from .title import input_of, read_opening, read_rows
 
 
 def measure_title(read, write, most_rows=MOST_ROWS):
-    """A whole title: one line, whatever its card declares. `read(n)` gives n bytes, fewer only at the end of the input."""
+    """A whole title: one line, whatever peak its card declares. `read(n)` gives n bytes, fewer only at the end of the input."""
     try:
-        _, width = read_opening(read)
-        write("%d %d %d\n" % measure(list(read_rows(read, width, most_rows))))
+        source, width = read_opening(read)
+        rows = [(row, source.form) for row in read_rows(read, width, source.form, most_rows)]
+        write("%d %d %d\n" % measure(rows))
     except Refused as refused:
         write(f"refused {refused.number}\n")
 

@@ -1,10 +1,25 @@
-"""Document 01, "Cards, rows, program", and request 02: the card that opens a title and names its peak."""
+"""Document 01, "Cards, rows, program", with requests 02 and 06: the card that opens a title and declares its source."""
+
+from typing import NamedTuple
 
 from .refusal import PEAK_TOP, Refused
+from .sample_format import FULL_RANGE, TWELVE_BITS, Format, format_of
 
-MAXCLL, MASTERING_PEAK, UNCONSTRAINED = 1, 2, 4      # bits of the opening byte
+MAXCLL, MASTERING_PEAK, UNCONSTRAINED = 1, 2, 4      # bits of the opening byte, beside those of the format
+KNOWN = MAXCLL | MASTERING_PEAK | UNCONSTRAINED | TWELVE_BITS | FULL_RANGE
 DEFAULT_PEAK = 4_000
 FIELD_BYTES = 2
+
+
+class Source(NamedTuple):
+    """What a card declares: the peak in cd/m2, and the format of the samples."""
+    peak: int
+    form: Format
+
+
+def has_unknown_bit(bits):
+    """Whether a bit map has a bit that stands for nothing."""
+    return bool(bits & ~KNOWN)
 
 
 def card_length(bits):
@@ -17,7 +32,7 @@ def card_fields(card):
     if not card:
         raise Refused(1)
     bits = card[0]
-    if bits >> 3:
+    if has_unknown_bit(bits):
         raise Refused(2)
     if len(card) < card_length(bits):
         raise Refused(3)
@@ -39,6 +54,11 @@ def peak_of_metadata(card):
     if MASTERING_PEAK in fields:
         return fields[MASTERING_PEAK]
     return PEAK_TOP if card[0] & UNCONSTRAINED else DEFAULT_PEAK
+
+
+def source_of_metadata(card):
+    """What the card that these bytes open with declares."""
+    return Source(peak_of_metadata(card), format_of(card[0]))
 
 
 def after_metadata(data):

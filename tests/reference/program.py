@@ -11,17 +11,17 @@ from .row import MOST_ROWS, pixels_of, samples_of
 from .title import input_of, read_opening, read_rows
 
 
-def lines_of(L, row):
+def lines_of(source, row):
     """The printed lines of an accepted row."""
-    return "".join("%d %d %d\n" % hlg_codes(L, pixel) for pixel in pixels_of(samples_of(row)))
+    return "".join("%d %d %d\n" % hlg_codes(source.peak, pixel, source.form) for pixel in pixels_of(samples_of(row)))
 
 
 def convert_title(read, write, most_rows=MOST_ROWS):
     """A whole title. `read(n)` gives n bytes, fewer only at the end of the input."""
     try:
-        L, width = read_opening(read)
-        for row in read_rows(read, width, most_rows):
-            write(lines_of(L, row))
+        source, width = read_opening(read)
+        for row in read_rows(read, width, source.form, most_rows):
+            write(lines_of(source, row))
     except Refused as refused:
         write(f"refused {refused.number}\n")
 

@@ -1,7 +1,8 @@
 """Document 01, "What stops a call", and the requests since: a refusal's number and its place."""
 
+from .sample_format import TEN_NARROW
+
 PEAK_TOP = 10_000
-LOWEST_SAMPLE, HIGHEST_SAMPLE = 4, 1_019
 LOWEST_CODE, HIGHEST_CODE = 64, 1_019          # of HLG
 
 
@@ -19,10 +20,11 @@ def refuse_peak(L):
         raise Refused(5)
 
 
-def refuse_samples(samples, first=0):
-    """Refusal 9 at the first sample out of range; `first` is the place of the first one given."""
+def refuse_samples(samples, form=TEN_NARROW, first=0):
+    """Refusal 9 at the first sample that the format does not take; `first` is the place of the first one given."""
+    taken = form.taken
     for place, sample in enumerate(samples, first):
-        if not LOWEST_SAMPLE <= sample <= HIGHEST_SAMPLE:
+        if sample not in taken:
             raise Refused(9, place)
 
 

@@ -1,4 +1,4 @@
-"""Document 01, "Cards, rows, program", and request 04: the two row calls and the one number that C gets from them.
+"""Document 01, "Cards, rows, program", with requests 04 and 06: the two row calls and the one number that C gets from them.
 
 Both make the same HLG codes and differ in what they write of them: `rgb` or `ycbcr.ycbcr`.
 """
@@ -7,6 +7,7 @@ from functools import lru_cache
 
 from .pixel import hlg_codes
 from .refusal import Refused, refuse_peak, refuse_samples
+from .sample_format import TEN_NARROW, format_of
 
 PIXEL_BYTES = 6
 WIDEST = 8_192
@@ -35,12 +36,12 @@ def rgb(codes):
 
 
 @lru_cache(maxsize=1)
-def span_codes(L, span):
+def span_codes(L, span, form):
     """The HLG codes of a span's pixels. The last ones are kept, for the other call on the same row."""
-    return [hlg_codes(L, pixel) for pixel in pixels_of(samples_of(span))]
+    return [hlg_codes(L, pixel, form) for pixel in pixels_of(samples_of(span))]
 
 
-def convert_row(L, row, destination, first, end, written=rgb):
+def convert_row(L, row, destination, first, end, written=rgb, form=TEN_NARROW):
     """Converts the span from `first` up to `end`, itself not included, and writes it to its places in `destination`, a bytearray.
 
     `written` makes the three samples of a pixel of its HLG codes. Refusals 5 to 9 in this order; a refused call writes nothing.
@@ -52,15 +53,15 @@ def convert_row(L, row, destination, first, end, written=rgb):
     if first > end or end > len(row) // PIXEL_BYTES:
         raise Refused(8)
     span = slice(PIXEL_BYTES * first, PIXEL_BYTES * end)
-    refuse_samples(samples_of(row[span]), 3 * first)
-    given = [sample for codes in span_codes(L, bytes(row[span])) for sample in written(codes)]
+    refuse_samples(samples_of(row[span]), form, 3 * first)
+    given = [sample for codes in span_codes(L, bytes(row[span]), form) for sample in written(codes)]
     destination[span] = b"".join(sample.to_bytes(2, "big") for sample in given)
 
 
-def c_number(L, row, destination, first, end, written=rgb):
-    """One number for C: 0, or of a refusal its number and 256 times its place added up."""
+def c_number(L, number, row, destination, first, end, written=rgb):
+    """One number for C: 0, or of a refusal its number and 256 times its place added up. `number` declares the format."""
     try:
-        convert_row(L, row, destination, first, end, written)
+        convert_row(L, row, destination, first, end, written, format_of(number))
     except Refused as refused:
         return refused.number + 256 * refused.place
     return 0

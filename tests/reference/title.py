@@ -1,8 +1,8 @@
-"""Document 01, "Cards, rows, program": a title as the programs read it, from its first byte to its last row."""
+"""Document 01, "Cards, rows, program", with request 06: a title as the programs read it, from its first byte to its last row."""
 
 import sys
 
-from .metadata import card_length, peak_of_metadata
+from .metadata import card_length, has_unknown_bit, source_of_metadata
 from .refusal import Refused, refuse_samples
 from .row import MOST_ROWS, PIXEL_BYTES, WIDEST, samples_of
 
@@ -10,7 +10,7 @@ from .row import MOST_ROWS, PIXEL_BYTES, WIDEST, samples_of
 def read_card(read):
     """The card's own bytes, as many as there are of them."""
     card = read(1)
-    if card and not card[0] >> 3:
+    if card and not has_unknown_bit(card[0]):
         card += read(card_length(card[0]) - 1)
     return card
 
@@ -25,11 +25,11 @@ def read_width(read):
 
 
 def read_opening(read):
-    """The declared peak and the width; refusals 1 to 4, then 10."""
-    return peak_of_metadata(read_card(read)), read_width(read)
+    """The declared source and the width; refusals 1 to 4, then 10."""
+    return source_of_metadata(read_card(read)), read_width(read)
 
 
-def read_rows(read, width, most_rows=MOST_ROWS):
+def read_rows(read, width, form, most_rows=MOST_ROWS):
     """The rows one by one, as bytes; refusal 11 before 9. What follows the last one that may be read stays unread."""
     for _ in range(most_rows):
         row = read(PIXEL_BYTES * width)
@@ -37,7 +37,7 @@ def read_rows(read, width, most_rows=MOST_ROWS):
             return
         if len(row) < PIXEL_BYTES * width:
             raise Refused(11)
-        refuse_samples(samples_of(row))
+        refuse_samples(samples_of(row), form)
         yield row
 
 

@@ -9,20 +9,25 @@ folder does not exist. README.md gives the forms of the files.
 
 import re
 import sys
+from functools import partial
 from io import BytesIO
 from pathlib import Path
 from random import Random
+from typing import NamedTuple
 
 from .cases import UNIT_PIXELS, cards, light_questions, measured_titles, records, row_calls, titles, ycbcr_codes
 from .content_light import Record, measure_row, measured_peak
+from .curve import position_of_code
+from .format_cases import format_cards, format_light_questions, format_pixels, format_records, format_row_calls, format_titles, measured_format_titles
 from .light import light_at, light_entry, light_of_code, position_of
 from .measure import measure_title
-from .metadata import after_metadata, peak_of_metadata
+from .metadata import after_metadata, source_of_metadata
 from .pixel import convert_pixel
 from .program import convert_title
 from .refusal import Refused
 from .row import MOST_ROWS, c_number, rgb
-from .samples import code_of_peak, draw_peaks, draw_pixel, knee_code
+from .sample_format import FULL_RANGE, TWELVE_BITS, format_of
+from .samples import delicate_pixels, draw_peaks, draw_pixel
 from .ycbcr import convert_codes, ycbcr
 
 ROOT = Path(__file__).resolve().parents[2]
@@ -31,21 +36,9 @@ SEED = 2_100
 PEAKS, DRAWN = 240, 76
 FILL = 0xA5                    # what a destination holds before the row call
 LIGHT_CALLS = {"entry": light_entry, "code": light_of_code, "light": light_at, "position": position_of}
+CODE_CALLS = {"code": light_of_code, "position": position_of_code}      # on a code of any format
+CALL_NUMBERS = {light_entry: 0, light_of_code: 1, light_at: 2, position_of: 3, position_of_code: 4}
 LARGE = (2**16 + 64, 2**32 + 500, 2**63 + 100, 2**64 - 1, 2**64 - 64)
-
-
-def delicate_pixels(L):
-    """For one peak: greys and pure colours about the knee and the peak, and the ends of the range."""
-    knee, top = knee_code(L), code_of_peak(L)
-    for D in (knee - 1, knee, knee + 1, top, top + 1):
-        yield D, D, D
-    yield knee, 64, 65
-    yield 66, knee - 1, 64
-    yield 64, 67, knee
-    yield 4, 4, 4
-    yield 1_019, 1_019, 1_019
-    yield 1_019, 4, 65
-    yield 940, 939, 941
 
 
 def refused_pixels():
@@ -91,9 +84,24 @@ def words(*numbers):
     return b"".join(number.to_bytes(8, "big") for number in numbers)
 
 
+def format_bits(number, unread=0):
+    """What one byte has room for of a format's number: its bits 3 and 4, and what is asked for of the others."""
+    return number & (TWELVE_BITS | FULL_RANGE | unread)
+
+
 def pixel_question(L, pixel):
     """A byte of 0, then peak, red, green and blue."""
     return b"\0" + words(L, *pixel)
+
+
+def format_pixel_question(number, L, pixel):
+    """A byte with the format in its bits 3 and 4, and bits 5 to 7 as they stand, which are not read; then as above."""
+    return bytes([format_bits(number, 0xE0)]) + words(L, *pixel)
+
+
+def format_pixel_line(number, L, pixel, given):
+    """The format's number, then as above."""
+    return f"{number} {pixel_line(L, pixel, given)}"
 
 
 def codes_line(codes, given):
@@ -112,8 +120,18 @@ def light_line(call, number, given):
 
 
 def light_question(call, number):
-    """The call in one byte, from 0 in the order of LIGHT_CALLS, then the number."""
-    return bytes([list(LIGHT_CALLS).index(call)]) + words(number)
+    """The call in one byte, then the number."""
+    return bytes([CALL_NUMBERS[LIGHT_CALLS[call]]]) + words(number)
+
+
+def format_light_line(number, call, D, given):
+    """The format's number, `code` or `position`, a code, then the answer."""
+    return f"{number} {call} {D} {given}"
+
+
+def format_light_question(number, call, D):
+    """The call in one byte with the format in its bits 3 and 4, then the code."""
+    return bytes([CALL_NUMBERS[CODE_CALLS[call]] | format_bits(number)]) + words(D)
 
 
 def digits(data):
@@ -123,12 +141,17 @@ def digits(data):
     return data.hex() or "-"
 
 
-def row_line(L, row, length, first, end, written=rgb):
+def row_line(L, row, length, first, end, written=rgb, number=0):
     """`peak first end row length number destination`; the destination is `same` if nothing was written."""
     destination = bytearray([FILL]) * length
-    number = c_number(L, row, destination, first, end, written)
+    answered = c_number(L, number, row, destination, first, end, written)
     after = "same" if destination == bytearray([FILL]) * length else digits(destination)
-    return f"{L} {first} {end} {digits(row)} {length} {number} {after}"
+    return f"{L} {first} {end} {digits(row)} {length} {answered} {after}"
+
+
+def format_row_line(number, *call, written=rgb):
+    """The format's number, then as above."""
+    return f"{number} {row_line(*call, written, number)}"
 
 
 def result_answer(record):
@@ -139,14 +162,14 @@ def result_answer(record):
         return f"refused {refused.number}"
 
 
-def record_answer(record, row):
+def record_answer(number, record, row):
     """`rows pixels position row pixel` of the record with the row in it, or its refusal; then the result of the record as it was given."""
-    return f"{answer(measure_row, Record(*record), row)} : {result_answer(Record(*record))}"
+    return f"{answer(measure_row, Record(*record), row, format_of(number))} : {result_answer(Record(*record))}"
 
 
-def record_question(record, row):
-    """The record's fields, the row's length in two bytes, the row."""
-    return words(*record) + len(row).to_bytes(2, "big") + row
+def record_question(number, record, row):
+    """The format's number in one byte, the record's fields, the row's length in two bytes, the row."""
+    return bytes([number]) + words(*record) + len(row).to_bytes(2, "big") + row
 
 
 def record_line(record, row, given):
@@ -155,13 +178,19 @@ def record_line(record, row, given):
     return f"{' '.join(map(str, record))} {'+'.join(digits(part[0]) for part in parts) or '-'} {given}"
 
 
+def format_record_line(number, record, row, given):
+    """The format's number, then as above."""
+    return f"{number} {record_line(record, row, given)}"
+
+
 def card_answer(data):
-    """`peak PEAK` or `refused NUMBER`, then how many bytes follow the card."""
+    """`peak PEAK` or `refused NUMBER`, then how many bytes follow the card; of an accepted one `twelve` and `full` where it declares them."""
+    length = len(after_metadata(data))
     try:
-        given = f"peak {peak_of_metadata(data)}"
+        peak, form = source_of_metadata(data)
     except Refused as refused:
-        given = f"refused {refused.number}"
-    return f"{given} {len(after_metadata(data))}"
+        return f"refused {refused.number} {length}"
+    return f"peak {peak} {length}" + " twelve" * (form.bits == 12) + " full" * form.full
 
 
 def card_question(data):
@@ -196,25 +225,51 @@ def lines(each):
     return "".join(line + "\n" for line in dict.fromkeys(each)).encode()
 
 
-def vector_files(lights, pixels, measured_rows, answered_cards, answered_codes):
+class Answers(NamedTuple):
+    """What is asked and answered, by the name of its file: each question, as the arguments of a call, with its answer."""
+    lights: dict
+    pixels: dict
+    ycbcr: dict
+    records: dict
+    cards: dict
+    format_lights: dict
+    format_pixels: dict
+    format_records: dict
+
+
+def answers():
+    """All of them."""
+    return Answers(
+        {case: str(LIGHT_CALLS[case[0]](case[1])) for case in light_questions()},
+        {case: answer(convert_pixel, *case) for case in pixel_cases()},
+        {(codes,): answer(convert_codes, codes) for codes in ycbcr_codes()},
+        {case: record_answer(0, *case) for case in records()},
+        {(data,): card_answer(data) for data in (*cards(), *(data[:8] for _, data in format_cards()))},
+        {(number, call, D): str(CODE_CALLS[call](D, format_of(number))) for number, call, D in format_light_questions()},
+        {(number, L, pixel): answer(convert_pixel, L, pixel, format_of(number)) for number, L, pixel in format_pixels()},
+        {case: record_answer(*case) for case in format_records()})
+
+
+def vector_files(answered):
     """Every file of tests/vectors: its path and its bytes."""
-    yield f"{FOLDER}/lights.txt", lines(light_line(*case, given) for case, given in lights.items())
-    yield f"{FOLDER}/pixels.txt", lines(pixel_line(*case, given) for case, given in pixels.items())
-    yield f"{FOLDER}/ycbcr.txt", lines(codes_line(*case, given) for case, given in answered_codes.items())
-    yield f"{FOLDER}/records.txt", lines(record_line(*case, given) for case, given in measured_rows.items())
-    yield f"{FOLDER}/rows.txt", lines(row_line(*case) for case in row_calls())
-    yield f"{FOLDER}/ycbcr_rows.txt", lines(row_line(*case, ycbcr) for case in row_calls())
-    yield f"{FOLDER}/cards.txt", lines(card_line(*case, given) for case, given in answered_cards.items())
-    for name, data in titles():
+    for name, line, cases in (("lights", light_line, answered.lights), ("pixels", pixel_line, answered.pixels), ("ycbcr", codes_line, answered.ycbcr),
+                              ("records", record_line, answered.records), ("cards", card_line, answered.cards),
+                              ("formats/lights", format_light_line, answered.format_lights), ("formats/pixels", format_pixel_line, answered.format_pixels),
+                              ("formats/records", format_record_line, answered.format_records)):
+        yield f"{FOLDER}/{name}.txt", lines(line(*case, given) for case, given in cases.items())
+    for name, written in (("rows", rgb), ("ycbcr_rows", ycbcr)):
+        yield f"{FOLDER}/{name}.txt", lines(row_line(*case, written) for case in row_calls())
+        yield f"{FOLDER}/formats/{name}.txt", lines(format_row_line(*case, written=written) for case in format_row_calls())
+    for name, data in (*titles(), *format_titles()):
         yield f"{FOLDER}/convert/{name}.in", data
         yield f"{FOLDER}/convert/{name}.out", converted(data)
         yield f"{FOLDER}/measure/{name}.out", measured(data)
-    for name, data in measured_titles():
+    for name, data in (*measured_titles(), *measured_format_titles()):
         yield f"{FOLDER}/measure/{name}.in", data
         yield f"{FOLDER}/measure/{name}.out", measured(data)
 
 
-def programs(lights, pixels, measured_rows, answered_cards, answered_codes):
+def programs(answered):
     """What each program is run on: its crate, its input and the output that it owes."""
     sample = dict(titles())["sample"]
     yield "convert", sample, converted(sample)
@@ -225,16 +280,18 @@ def programs(lights, pixels, measured_rows, answered_cards, answered_codes):
     # two rows and a brighter third
     brighter = dict(measured_titles())["three_rows_brightest_last"]
     yield "measure_limit", brighter, measured(brighter, 2)
-    for crate, *asked in (("light_vectors", (light_question, lights)),
-                          ("pixel_vectors", (pixel_question, pixels), (codes_question, answered_codes)),
-                          ("record_vectors", (record_question, measured_rows)), ("card_vectors", (card_question, answered_cards))):
+    for crate, *asked in (
+            ("light_vectors", (light_question, answered.lights), (format_light_question, answered.format_lights)),
+            ("pixel_vectors", (pixel_question, answered.pixels), (codes_question, answered.ycbcr), (format_pixel_question, answered.format_pixels)),
+            ("record_vectors", (partial(record_question, 0), answered.records), (record_question, answered.format_records)),
+            ("card_vectors", (card_question, answered.cards))):
         yield (crate, b"".join(question(*case) for question, cases in asked for case in cases),
                "".join(given + "\n" for _, cases in asked for given in cases.values()).encode())
 
 
-def program_files(*cases):
+def program_files(answered):
     """Standard input and output of the programs whose crates are there; says which are not."""
-    for crate, given, owed in programs(*cases):
+    for crate, given, owed in programs(answered):
         if (ROOT / "crates" / crate).is_dir():
             yield f"crates/{crate}/stdin", given
             yield f"crates/{crate}/stdout", owed
@@ -244,14 +301,9 @@ def program_files(*cases):
 
 def files():
     """Every stored file: its path in the repository and its bytes."""
-    lights = {case: str(LIGHT_CALLS[case[0]](case[1])) for case in light_questions()}
-    pixels = {case: answer(convert_pixel, *case) for case in pixel_cases()}
-    measured_rows = {case: record_answer(*case) for case in records()}
-    answered_cards = {(data,): card_answer(data) for data in cards()}
-    answered_codes = {(codes,): answer(convert_codes, codes) for codes in ycbcr_codes()}
-    answers = lights, pixels, measured_rows, answered_cards, answered_codes
-    yield from vector_files(*answers)
-    yield from program_files(*answers)
+    answered = answers()
+    yield from vector_files(answered)
+    yield from program_files(answered)
 
 
 def differences(stored):

@@ -1,11 +1,14 @@
 // The card's calls over stored questions on standard input: the number of bytes in one byte, then the bytes, which open with a card. The answer is a
-// line: the peak or the refusal, then how many bytes follow the card.
+// line: the peak or the refusal, then how many bytes follow the card, and last what else the card says, `twelve` bits and `full` range.
 use big_endian::byte_at;
 use libc::STDIN_FILENO;
 use libc::STDOUT_FILENO;
 use metadata::SourceAnswer;
 use metadata::after_metadata;
 use metadata::source_of_metadata;
+use quantity::sample_format::Depth;
+use quantity::sample_format::Range;
+use quantity::sample_format::SampleFormat;
 
 fn print_source(answer: SourceAnswer) -> bool {
     match answer {
@@ -19,9 +22,33 @@ fn print_source(answer: SourceAnswer) -> bool {
 }
 
 fn print_length(bytes: &[u8]) -> bool {
-    io::write_all(STDOUT_FILENO, b" ")
-        && io::print_decimal(STDOUT_FILENO, bytes.len() as u64)
-        && io::write_all(STDOUT_FILENO, b"\n")
+    io::write_all(STDOUT_FILENO, b" ") && io::print_decimal(STDOUT_FILENO, bytes.len() as u64)
+}
+
+fn print_format(answer: SourceAnswer) -> bool {
+    match answer {
+        SourceAnswer::Declared(source) => {
+            let format = source.format;
+            print_depth(format) && print_range(format)
+        }
+        SourceAnswer::Refused(_) => true,
+    }
+}
+
+fn print_depth(format: SampleFormat) -> bool {
+    let depth = format.depth;
+    match depth {
+        Depth::Ten => true,
+        Depth::Twelve => io::write_all(STDOUT_FILENO, b" twelve"),
+    }
+}
+
+fn print_range(format: SampleFormat) -> bool {
+    let range = format.range;
+    match range {
+        Range::Narrow => true,
+        Range::Full => io::write_all(STDOUT_FILENO, b" full"),
+    }
 }
 
 // One question and its answer; false at the end of the input, which may cut a question short, and after a failed write.
@@ -42,7 +69,10 @@ fn answer(card: &mut [u8]) -> bool {
     if got != card.len() {
         return false;
     }
-    print_source(source_of_metadata(card)) && print_length(after_metadata(card))
+    print_source(source_of_metadata(card))
+        && print_length(after_metadata(card))
+        && print_format(source_of_metadata(card))
+        && io::write_all(STDOUT_FILENO, b"\n")
 }
 
 fn main() {

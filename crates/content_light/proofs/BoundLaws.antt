@@ -10,7 +10,6 @@ use borrow.Author.Tests.{le-ltb}
 use Rattle.quantity.specs.Component.{pixel, brightest}
 use Rattle.rows.specs.Row.{sampleAt, pixelAt}
 use Rattle.rows.specs.Answer.{outside, firstRefused}
-use Rattle.pq_hlg.specs.Pixel.{sampleRefused}
 use Rattle.content_light.specs.Bounds.{Bounded}
 
 -- ---- bounds pixel by pixel
@@ -52,20 +51,20 @@ none-refused refused row i (suc n) h =
     (none-refused refused row (i + 1) n (λ k l u. h k (omega arith) (omega arith)) ∙ omega arith)
 
 -- the search over all samples that a row has, as `first_refused` gives it
-pub whole-search : (row : List ℕ)
-    → firstRefused sampleRefused row 0 (min (length row / 2) (length row / 2) - 0) ≡ firstRefused sampleRefused row 0 (length row / 2)
-whole-search row = let e : min (length row / 2) (length row / 2) - 0 ≡ length row / 2 = omega arith in ap (firstRefused sampleRefused row 0) e
+pub whole-search : (refused : ℕ → Bool) (row : List ℕ)
+    → firstRefused refused row 0 (min (length row / 2) (length row / 2) - 0) ≡ firstRefused refused row 0 (length row / 2)
+whole-search refused row = let e : min (length row / 2) (length row / 2) - 0 ≡ length row / 2 = omega arith in ap (firstRefused refused row 0) e
 
 module _ {row : List ℕ} {n least most : ℕ} (b : Bounded row n least most) where
   -- samples within the range are all taken
-  pub all-taken : (samples : ℕ) → samples ≤ 3 * n → 4 ≤ least → most ≤ 1019 → firstRefused sampleRefused row 0 samples ≡ samples
+  pub all-taken : (from to samples : ℕ) → samples ≤ 3 * n → from ≤ least → most ≤ to → firstRefused (outside from to) row 0 samples ≡ samples
   unfolding outside
-  all-taken samples s l u =
-      none-refused sampleRefused row 0 samples
+  all-taken from to samples s l u =
+      none-refused (outside from to) row 0 samples
       (λ k _ h.
       let up = b .below k (omega arith) in
       let down = b .above k (omega arith) in
-      simp (le-ltb (sampleAt row k) 4 (omega arith), le-ltb 1019 (sampleAt row k) (omega arith)))
+      simp (le-ltb (sampleAt row k) from (omega arith), le-ltb to (sampleAt row k) (omega arith)))
       ∙ omega arith
 
   -- no pixel's brightest code exceeds the most

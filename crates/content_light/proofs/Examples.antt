@@ -1,25 +1,34 @@
 -- Small titles, computed: what black, the first code above it, the codes about 1,000 cd/m2 and those from full signal on measure; which row is told;
 -- and a record that has counted all rows.
 use mathlib.Core.Path.{_≡_, refl}
-use mathlib.Core.List.{List, [], _∷_}
+use mathlib.Core.List.{[], _∷_}
 use Prim.Native.Nat.{ℕ}
 use Rattle.quantity.specs.Units.{units}
+use Rattle.quantity.specs.declared.sample_format.Depth.the-variants.{Ten, Twelve}
+use Rattle.quantity.specs.declared.sample_format.Range.the-variants.{Narrow, Full}
+use Rattle.quantity.specs.SampleFormat.{coded}
 use Rattle.quantity.specs.Component.{pixel}
 use Rattle.pq.specs.LightTable.{lightTable, lightEntry}
 use Rattle.big_endian.specs.BigEndian.{numberAt}
-use Rattle.position.specs.Position.{codeLight}
+use Rattle.position.specs.Position.{lightAt}
+use Rattle.position.specs.Code.{codeLight}
 use Rattle.pixel.specs.Conversion.{brightestLight}
 use Rattle.rows.specs.Row.{sampleAt, pixelBytes}
 use Rattle.rows.specs.Answer.{outside, firstRefused, lengthRefused}
 use Rattle.content_light.specs.declared.RunRecord.{RunRecord}
 use Rattle.content_light.specs.declared.PeakAnswer.the-variants.{Peak, Refused}
 use Rattle.content_light.specs.declared.RecordAnswer.the-variants as answer
-use Rattle.content_light.specs.Peak.{mostRows, rowTest, acceptedRows, outshines, after, afterPixels, afterRows, roundedUp, peakOf, measured}
+use Rattle.content_light.specs.Peak.{CodedRow, rowIn, mostRows, rowTest}
+use Rattle.content_light.specs.Peak.{acceptedRows, outshines, after, afterPixels, afterRows, roundedUp, peakOf, measured}
 use Rattle.content_light.specs.Run.{recordAnswer}
 
 -- a row of one red pixel of that code
-abbrev rowOf : ℕ → List ℕ
-rowOf D = pixelBytes (pixel D 64 64)
+abbrev rowOf : ℕ → CodedRow
+rowOf D = rowIn (coded Ten Narrow) (pixelBytes (pixel D 64 64))
+
+-- and one of none
+abbrev empty : CodedRow
+empty = rowIn (coded Ten Narrow) []
 
 pub record Examples : Type 0 where
   pub black : measured (rowOf 64 ∷ []) ≡ Peak 0 0 0
@@ -32,11 +41,15 @@ pub record Examples : Type 0 where
   pub later-row : measured (rowOf 65 ∷ rowOf 722 ∷ []) ≡ Peak 994 1 0
   pub equal-light : measured (rowOf 940 ∷ rowOf 1019 ∷ []) ≡ Peak 10000 0 0
   pub refused-row : measured (rowOf 3 ∷ rowOf 722 ∷ []) ≡ Peak 994 0 0
-  pub empty-row : measured ([] ∷ rowOf 722 ∷ []) ≡ Peak 994 1 0
-  pub no-pixel : measured ([] ∷ []) ≡ Refused 12
+  pub empty-row : measured (empty ∷ rowOf 722 ∷ []) ≡ Peak 994 1 0
+  pub twelve-bits : measured (rowIn (coded Twelve Narrow) (pixelBytes (pixel 2888 256 256)) ∷ []) ≡ Peak 994 0 0
+  pub full-range : measured (rowIn (coded Twelve Full) (pixelBytes (pixel 4095 0 0)) ∷ []) ≡ Peak 10000 0 0
+  pub equal-formats : measured (rowOf 722 ∷ rowIn (coded Twelve Narrow) (pixelBytes (pixel 2888 256 256)) ∷ []) ≡ Peak 994 0 0
+  pub brighter-format : measured (rowOf 722 ∷ rowIn (coded Ten Full) (pixelBytes (pixel 769 0 0)) ∷ []) ≡ Peak 999 1 0
+  pub no-pixel : measured (empty ∷ []) ≡ Refused 12
 
 pub examples : Examples
-unfolding units lightTable lightEntry numberAt codeLight brightestLight sampleAt pixelBytes outside firstRefused lengthRefused mostRows rowTest
+unfolding units lightTable lightEntry numberAt lightAt codeLight brightestLight sampleAt pixelBytes outside firstRefused lengthRefused mostRows rowTest
     acceptedRows outshines after afterPixels afterRows roundedUp peakOf measured
 examples =
     record {
@@ -51,6 +64,10 @@ examples =
       equal-light = refl;
       refused-row = refl;
       empty-row = refl;
+      twelve-bits = refl;
+      full-range = refl;
+      equal-formats = refl;
+      brighter-format = refl;
       no-pixel = refl;
     }
 
@@ -58,6 +75,6 @@ examples =
 abbrev allRows : RunRecord
 allRows = record { rows = 4294967295; pixels = 1; position = record { 0 = 0 }; row = 0; pixel = 0 }
 
-pub full-record : (row : List ℕ) → recordAnswer allRows row ≡ answer.Refused 13 0
+pub full-record : (row : CodedRow) → recordAnswer allRows row ≡ answer.Refused 13 0
 unfolding mostRows rowTest recordAnswer
 full-record row = refl

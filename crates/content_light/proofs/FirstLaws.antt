@@ -4,24 +4,28 @@ use mathlib.Core.Path.{_≡_, refl, sym, ap, subst, _∙_}
 use mathlib.Core.Logic.{_⊎_, inl, inr}
 use mathlib.Core.Bool.{Bool, true, false, cond}
 use mathlib.Core.List.{List, [], _∷_}
-use Prim.Native.Nat.{ℕ, zero, suc, _+_, _/_, _≤_, _<_}
+use Prim.Native.Nat.{ℕ, zero, suc, _+_, _≤_, _<_}
 use native.Mathlib.Decide.{decLt}
 use native.Mathlib.Omega.{arith}
 use lib.ListN.{length, getD}
-use Rattle.content_light.specs.Peak.{lightOf, outshines, Brightest, none, found, after, afterPixels, afterRows, brightestPixel}
+use Rattle.quantity.specs.declared.sample_format.Depth.the-variants.{Ten}
+use Rattle.quantity.specs.declared.sample_format.Range.the-variants.{Narrow}
+use Rattle.quantity.specs.SampleFormat.{coded}
+use Rattle.content_light.specs.Peak.{CodedRow, rowIn, pixelsOf, lightOf}
+use Rattle.content_light.specs.Peak.{outshines, Brightest, none, found, after, afterPixels, afterRows, brightestPixel}
 use Rattle.content_light.proofs.OutshinesLaws.{outshines-lt, outshone-le}
 
-abbrev pub rowAt : List (List ℕ) → ℕ → List ℕ
-rowAt rows i = getD rows i []
+abbrev pub rowAt : List CodedRow → ℕ → CodedRow
+rowAt rows i = getD rows i (rowIn (coded Ten Narrow) [])
 
 -- a pixel of rows
-abbrev pub Located : List (List ℕ) → ℕ → ℕ → Type 0
-Located rows i j = (i < length rows) × (j < length (rowAt rows i) / 6)
+abbrev pub Located : List CodedRow → ℕ → ℕ → Type 0
+Located rows i j = (i < length rows) × (j < pixelsOf (rowAt rows i))
 
 abbrev pub Before : ℕ → ℕ → ℕ → ℕ → Type 0
 Before i j row pixel = (i < row) ⊎ ((i ≡ row) × (j < pixel))
 
-pub record FirstBrightest (rows : List (List ℕ)) (light row pixel : ℕ) : Type 0 where
+pub record FirstBrightest (rows : List CodedRow) (light row pixel : ℕ) : Type 0 where
   pub there : Located rows row pixel
   pub has : lightOf (rowAt rows row) pixel ≡ light
   pub most : (i j : ℕ) → Located rows i j → lightOf (rowAt rows i) j ≤ light
@@ -121,13 +125,13 @@ module _ (f : ℕ → ℕ → ℕ) {P Q : ℕ → ℕ → Type 0} where
         go false e = first-stays s (outshone-le (f n x) light e)
 
 -- ---- the walk over rows
-module _ (rows : List (List ℕ)) where
+module _ (rows : List CodedRow) where
   abbrev lightIn : ℕ → ℕ → ℕ
   lightIn i j = lightOf (rowAt rows i) j
 
   -- the places seen after n rows and m pixels of the next
   abbrev Seen : ℕ → ℕ → ℕ → ℕ → Type 0
-  Seen n m i j = ((i < n) × (j < length (rowAt rows i) / 6)) ⊎ ((i ≡ n) × (j < m))
+  Seen n m i j = ((i < n) × (j < pixelsOf (rowAt rows i))) ⊎ ((i ≡ n) × (j < m))
 
   -- pixel m of row n is seen next
   next-seen : (n m : ℕ) → OneMore (Seen n m) (Seen n (suc m)) n m
@@ -157,31 +161,31 @@ module _ (rows : List (List ℕ)) where
 
   -- with all pixels of row n, n + 1 rows are seen
   row-walked : (n : ℕ) (b : Brightest) → Finds lightIn (Seen n 0) b
-      → Finds lightIn (Seen (suc n) 0) (afterPixels b n (rowAt rows n) (length (rowAt rows n) / 6))
+      → Finds lightIn (Seen (suc n) 0) (afterPixels b n (rowAt rows n) (pixelsOf (rowAt rows n)))
   row-walked n b s =
       let row = rowAt rows n in
-      finds-among lightIn to from (afterPixels b n row (length row / 6)) (pixels-walked n (length row / 6) b s)
+      finds-among lightIn to from (afterPixels b n row (pixelsOf row)) (pixels-walked n (pixelsOf row) b s)
     where
-      to : (i j : ℕ) → Seen n (length (rowAt rows n) / 6) i j → Seen (suc n) 0 i j
+      to : (i j : ℕ) → Seen n (pixelsOf (rowAt rows n)) i j → Seen (suc n) 0 i j
       to i j (inl p) = inl (omega (arith, p .0), p .1)
       to i j (inr p) = inl (omega (arith, p .0), rw (p .0) (p .1))
 
-      last : (i j : ℕ) → i < suc n → j < length (rowAt rows i) / 6 → Dec (i < n) → Seen n (length (rowAt rows n) / 6) i j
+      last : (i j : ℕ) → i < suc n → j < pixelsOf (rowAt rows i) → Dec (i < n) → Seen n (pixelsOf (rowAt rows n)) i j
       last i j h k (yes l) = inl (l, k)
       last i j h k (no l) = let e : i ≡ n = omega arith in inr (e, rw e at k)
 
-      from : (i j : ℕ) → Seen (suc n) 0 i j → Seen n (length (rowAt rows n) / 6) i j
+      from : (i j : ℕ) → Seen (suc n) 0 i j → Seen n (pixelsOf (rowAt rows n)) i j
       from i j (inl p) = last i j (p .0) (p .1) (decLt i n)
       from i j (inr p) = absurd (omega (arith, p .1))
 
   -- with the later rows, which are those from n on, all are seen
-  rows-walked : (later : List (List ℕ)) (n : ℕ) (b : Brightest) → ((i : ℕ) → rowAt later i ≡ rowAt rows (n + i)) → n + length later ≡ length rows
+  rows-walked : (later : List CodedRow) (n : ℕ) (b : Brightest) → ((i : ℕ) → rowAt later i ≡ rowAt rows (n + i)) → n + length later ≡ length rows
       → Finds lightIn (Seen n 0) b → Finds lightIn (Seen (length rows) 0) (afterRows b n later)
   unfolding afterRows
   rows-walked [] n b each e s = let all : n ≡ length rows = omega (arith, e) in subst (λ (k : ℕ). Finds lightIn (Seen k 0) b) all s
   rows-walked (row ∷ later) n b each e s =
-      rows-walked later (suc n) (afterPixels b n row (length row / 6)) (λ i. each (suc i) ∙ ap (rowAt rows) (omega arith)) (omega (arith, e))
-      (subst (λ (r : List ℕ). Finds lightIn (Seen (suc n) 0) (afterPixels b n r (length r / 6))) (sym here) (row-walked n b s))
+      rows-walked later (suc n) (afterPixels b n row (pixelsOf row)) (λ i. each (suc i) ∙ ap (rowAt rows) (omega arith)) (omega (arith, e))
+      (subst (λ (r : CodedRow). Finds lightIn (Seen (suc n) 0) (afterPixels b n r (pixelsOf r))) (sym here) (row-walked n b s))
     where
       here : row ≡ rowAt rows n
       here = each 0 ∙ ap (rowAt rows) (omega arith)
@@ -201,16 +205,16 @@ module _ (rows : List (List ℕ)) where
       located i j (inr p) = absurd (omega (arith, p .1))
 
 -- ---- what it finds
-pub first-brightest : (rows : List (List ℕ)) {light row pixel : ℕ} → brightestPixel rows ≡ found light row pixel → FirstBrightest rows light row pixel
+pub first-brightest : (rows : List CodedRow) {light row pixel : ℕ} → brightestPixel rows ≡ found light row pixel → FirstBrightest rows light row pixel
 first-brightest rows e =
     let w = subst (Finds (lightIn rows) (Located rows)) e (all-walked rows) in
     record { there = w .there; has = w .has; most = w .most; first = w .first }
 
-pub no-pixel-located : (rows : List (List ℕ)) → brightestPixel rows ≡ none → (i j : ℕ) → Located rows i j → ⊥
+pub no-pixel-located : (rows : List CodedRow) → brightestPixel rows ≡ none → (i j : ℕ) → Located rows i j → ⊥
 no-pixel-located rows e = subst (Finds (lightIn rows) (Located rows)) e (all-walked rows)
 
 -- and nothing else is it
-pub first-unique : (rows : List (List ℕ)) {l r j l′ r′ j′ : ℕ} → FirstBrightest rows l r j → FirstBrightest rows l′ r′ j′ → (l ≡ l′) × (r ≡ r′) × (j ≡ j′)
+pub first-unique : (rows : List CodedRow) {l r j l′ r′ j′ : ℕ} → FirstBrightest rows l r j → FirstBrightest rows l′ r′ j′ → (l ≡ l′) × (r ≡ r′) × (j ≡ j′)
 first-unique rows {l} {r} {j} {l′} {r′} {j′} x y = (same, place .0, place .1)
   where
     same : l ≡ l′

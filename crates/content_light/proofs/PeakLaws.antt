@@ -1,6 +1,6 @@
 -- A measured peak: the least whole number of cd/m2 that no pixel of the accepted rows exceeds. Under it, from 1 up, the row call converts each of these
 -- rows, and no pixel is cut at the peak's position.
-use mathlib.Core.Path.{_≡_, refl, sym, ap, subst, _∙_}
+use mathlib.Core.Path.{_≡_, refl, sym, subst, _∙_}
 use mathlib.Core.Bool.{false}
 use mathlib.Core.List.{List, [], _∷_}
 use Prim.Native.Nat.{ℕ, zero, suc, _*_, _-_, _/_, _≤_, _<_}
@@ -9,11 +9,13 @@ use native.Mathlib.Omega.{arith}
 use lib.ListN.{length}
 use borrow.Author.Tests.{eq-eqb, ne-eqb, le-ltb}
 use Rattle.quantity.specs.Units.{units, tenThousand}
+use Rattle.quantity.specs.declared.sample_format.SampleFormat.{SampleFormat}
+use Rattle.quantity.specs.SampleFormat.{black}
 use Rattle.quantity.specs.Component.{Pixel, brightest}
-use Rattle.pq.specs.LightTable.{lightEntry}
-use Rattle.pq.proofs.EntryLaws.{entry-first}
-use Rattle.position.specs.Position.{codeIndex, codeLight, positionOf}
+use Rattle.position.specs.Position.{positionOf}
+use Rattle.position.specs.Code.{aboveBlack}
 use Rattle.position.proofs.PositionLaws.{position-is}
+use Rattle.position.proofs.CodeLaws.{black-light}
 use Rattle.pixel.specs.Conversion.{brightestLight, brightestPosition}
 use Rattle.pixel.proofs.PixelLaws.{light-of-brightest, brightest-lit, brightest-light-at-most, brightest-position-range}
 use Rattle.rows.specs.declared.RowAnswer.the-variants.{Converted}
@@ -21,9 +23,10 @@ use Rattle.rows.specs.Row.{pixelAt}
 use Rattle.rows.specs.Answer.{firstRefused, lengthRefused, destinationRefused, spanRefused, spanAnswer}
 use Rattle.rows.proofs.AnswerLaws.{length-taken}
 use Rattle.pq_hlg.specs.Pixel.{peakRefused, sampleRefused}
-use Rattle.pq_hlg.specs.Row.{rowAnswer, sourceOf}
+use Rattle.pq_hlg.specs.Row.{rowAnswer}
 use Rattle.content_light.specs.declared.PeakAnswer.the-variants.{Peak}
-use Rattle.content_light.specs.Peak.{Test, accepted, refused, rowTest, counted, kept, acceptedRows, lightOf, Brightest, none, found, brightestPixel}
+use Rattle.content_light.specs.Peak.{CodedRow, pixelsOf, Test, accepted, refused, rowTest}
+use Rattle.content_light.specs.Peak.{counted, kept, acceptedRows, lightOf, Brightest, none, found, brightestPixel}
 use Rattle.content_light.specs.Peak.{roundedUp, peakOf, measured}
 use Rattle.content_light.proofs.RangeLaws.{taken}
 use Rattle.content_light.proofs.FirstLaws.{rowAt, Located, FirstBrightest, first-brightest}
@@ -37,28 +40,24 @@ pub no-more : (light peak : ℕ) → light ≤ peak * units → roundedUp light 
 unfolding roundedUp units
 no-more light peak h = omega arith
 
--- codes up to 64 have no light
-dark : (D : ℕ) → D ≤ 64 → codeLight D ≡ 0
-unfolding codeLight
-dark D h = let k : codeIndex D ≡ 0 = omega arith in ap lightEntry k ∙ entry-first
-
 -- a pixel whose light is at most l has its position at most at that of l
-lit-position : (p : Pixel) (l : ℕ) → brightestLight p ≤ l → brightestPosition p ≤ positionOf l
+lit-position : (f : SampleFormat) (p : Pixel) (l : ℕ) → brightestLight f p ≤ l → brightestPosition f p ≤ positionOf l
 unfolding brightestLight
-lit-position p l h =
-    position-is l .largest (brightestPosition p) (brightest-position-range p) (subst (λ (x : ℕ). x ≤ l) (brightest-lit p) h)
+lit-position f p l h =
+    position-is l .largest (brightestPosition f p) (brightest-position-range f p) (subst (λ (x : ℕ). x ≤ l) (brightest-lit f p) h)
 
 -- ---- accepted rows have passed their tests
-pub accepted-passed : (n : ℕ) (rows : List (List ℕ)) (k : ℕ) → k < length (acceptedRows n rows)
-    → (lengthRefused (length (rowAt (acceptedRows n rows) k)) ≡ false)
-    × (length (rowAt (acceptedRows n rows) k) / 2 ≤ firstRefused sampleRefused (rowAt (acceptedRows n rows) k) 0 (length (rowAt (acceptedRows n rows) k) / 2))
+abbrev pub Passed : CodedRow → Type 0
+Passed r =
+    (lengthRefused (length (r .bytes)) ≡ false) ×
+    (length (r .bytes) / 2 ≤ firstRefused (sampleRefused (r .format)) (r .bytes) 0 (length (r .bytes) / 2))
+
+pub accepted-passed : (n : ℕ) (rows : List CodedRow) (k : ℕ) → k < length (acceptedRows n rows)
+    → Passed (rowAt (acceptedRows n rows) k)
 unfolding acceptedRows
 accepted-passed n [] k h = absurd (omega arith)
 accepted-passed n (row ∷ later) k h = go (rowTest n row) refl k h (λ m. accepted-passed m later)
   where
-    Passed : List ℕ → Type 0
-    Passed r = (lengthRefused (length r) ≡ false) × (length r / 2 ≤ firstRefused sampleRefused r 0 (length r / 2))
-
     go : (t : Test) → rowTest n row ≡ t → (i : ℕ) → i < length (kept t row (acceptedRows (counted t n) later))
         → ((m j : ℕ) → j < length (acceptedRows m later) → Passed (rowAt (acceptedRows m later) j))
         → Passed (rowAt (kept t row (acceptedRows (counted t n) later)) i)
@@ -66,11 +65,16 @@ accepted-passed n (row ∷ later) k h = go (rowTest n row) refl k h (λ m. accep
     go accepted e (suc i) l again = again (suc n) i (omega arith)
     go (refused number place) e i l again = again n i l
 
--- ---- the row call converts such a row whole
-pub whole-row-converts : (peak : ℕ) (row : List ℕ) → 1 ≤ peak → peak ≤ 10000 → lengthRefused (length row) ≡ false
-    → length row / 2 ≤ firstRefused sampleRefused row 0 (length row / 2) → rowAnswer (sourceOf peak) row (length row) 0 (length row / 6) ≡ Converted
+-- ---- the row call converts such a row whole, under the peak and in the row's own format
+abbrev pub ConvertsWhole : ℕ → CodedRow → Type 0
+ConvertsWhole peak row =
+    rowAnswer (record { peak = peak; format = row .format }) (row .bytes) (length (row .bytes)) 0 (pixelsOf row) ≡ Converted
+
+pub whole-row-converts : (peak : ℕ) (coded : CodedRow) → 1 ≤ peak → peak ≤ 10000 → Passed coded → ConvertsWhole peak coded
 unfolding rowAnswer peakRefused spanAnswer destinationRefused spanRefused
-whole-row-converts peak row p q l s =
+whole-row-converts peak coded p q passed =
+    let row = coded .bytes in
+    let l = passed .0 in
     let sixes = length-taken (length row) l in
     let pixels = length row / 6 in
     let some = ne-eqb peak 0 (omega arith) in
@@ -80,16 +84,16 @@ whole-row-converts peak row p q l s =
     let end = le-ltb pixels pixels (omega arith) in
     let all : 3 * (pixels - 0) ≡ length row / 2 = omega (arith, sixes .0) in
     let samples : 3 * pixels ≡ length row / 2 = omega (arith, sixes .0) in
-    simp (some, most, l, same, first, end, all, samples, le-ltb _ (length row / 2) s)
+    simp (some, most, l, same, first, end, all, samples, le-ltb _ (length row / 2) (passed .1))
 
 -- ---- the peak that a title measures
 -- what a row's pixels are under a peak
-pub record Under (peak : ℕ) (row : List ℕ) : Type 0 where
-  pub converts : rowAnswer (sourceOf peak) row (length row) 0 (length row / 6) ≡ Converted
-  pub light : (j : ℕ) → j < length row / 6 → brightestLight (pixelAt row j) ≤ peak * units
-  pub position : (j : ℕ) → j < length row / 6 → brightestPosition (pixelAt row j) ≤ positionOf (peak * units)
+pub record Under (peak : ℕ) (row : CodedRow) : Type 0 where
+  pub converts : ConvertsWhole peak row
+  pub light : (j : ℕ) → j < pixelsOf row → lightOf row j ≤ peak * units
+  pub position : (j : ℕ) → j < pixelsOf row → brightestPosition (row .format) (pixelAt (row .bytes) j) ≤ positionOf (peak * units)
 
-module _ (rows : List (List ℕ)) {peak row pixel : ℕ} (m : measured rows ≡ Peak peak row pixel) where
+module _ (rows : List CodedRow) {peak row pixel : ℕ} (m : measured rows ≡ Peak peak row pixel) where
   -- its light is that of the first brightest pixel
   abbrev FoundLight : Type 0
   FoundLight = (light : ℕ) × (peak ≡ roundedUp light) × FirstBrightest (acceptedRows 0 rows) light row pixel
@@ -121,14 +125,18 @@ module _ (rows : List (List ℕ)) {peak row pixel : ℕ} (m : measured rows ≡ 
   -- no title measures more than 10,000 cd/m2,
   pub peak-at-most : peak ≤ 10000
   unfolding tenThousand
-  peak-at-most = peak-least 10000 (λ i j at. brightest-light-at-most (pixelAt (rowAt (acceptedRows 0 rows) i) j))
+  peak-at-most =
+      peak-least 10000 (λ i j at. let r = rowAt (acceptedRows 0 rows) i in brightest-light-at-most (r .format) (pixelAt (r .bytes) j))
 
   -- and a black one, all of whose codes are read as black, measures 0.
-  pub black-measures-none : ((i j : ℕ) → Located (acceptedRows 0 rows) i j → brightest (pixelAt (rowAt (acceptedRows 0 rows) i) j) ≤ 64) → peak ≡ 0
+  pub black-measures-none : ((i j : ℕ) → Located (acceptedRows 0 rows) i j
+      → let r = rowAt (acceptedRows 0 rows) i in brightest (pixelAt (r .bytes) j) ≤ black (r .format)) → peak ≡ 0
   black-measures-none h =
       let none-above = peak-least 0 (λ i j at.
-      let p = pixelAt (rowAt (acceptedRows 0 rows) i) j in
-      omega (arith, light-of-brightest p, dark (brightest p) (h i j at))) in
+      let r = rowAt (acceptedRows 0 rows) i in
+      let p = pixelAt (r .bytes) j in
+      let dark : aboveBlack (r .format) (brightest p) ≡ 0 = omega (arith, h i j at) in
+      omega (arith, light-of-brightest (r .format) p, black-light (r .format) (brightest p) dark)) in
       omega arith
 
   -- With a peak from 1 up the row call converts every accepted row whole, and the curve cuts no pixel of it.
@@ -137,7 +145,7 @@ module _ (rows : List (List ℕ)) {peak row pixel : ℕ} (m : measured rows ≡ 
       let passed = accepted-passed 0 rows i h in
       let r = rowAt (acceptedRows 0 rows) i in
       record {
-        converts = whole-row-converts peak r some peak-at-most (passed .0) (passed .1);
+        converts = whole-row-converts peak r some peak-at-most passed;
         light = λ j k. peak-enough i j (h, k);
-        position = λ j k. lit-position (pixelAt r j) (peak * units) (peak-enough i j (h, k));
+        position = λ j k. lit-position (r .format) (pixelAt (r .bytes) j) (peak * units) (peak-enough i j (h, k));
       }

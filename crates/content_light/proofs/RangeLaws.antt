@@ -1,21 +1,18 @@
 -- Records whose fields are in their ranges, as those of a run are: they are read as they are, and stay so with every row that is accepted.
 use mathlib.Core.Path.{_≡_, refl}
 use mathlib.Core.Bool.{Bool, true, false}
-use mathlib.Core.List.{List}
 use Prim.Native.Nat.{ℕ, zero, suc, min, _/_, _≤_, _<_}
 use native.Mathlib.Omega.{arith}
 use lib.Dec.{leb, ltb}
 use lib.ListN.{length}
 use borrow.Author.Tests.{leb-false, ltb-false}
 use Rattle.quantity.specs.Units.{lastPosition}
-use Rattle.pixel.specs.Conversion.{brightestPosition}
-use Rattle.rows.specs.Row.{pixelAt}
 use Rattle.rows.specs.Answer.{firstRefused, lengthRefused}
 use Rattle.rows.proofs.AnswerLaws.{length-taken}
 use Rattle.pq_hlg.specs.Pixel.{sampleRefused}
 use Rattle.content_light.specs.declared.RunRecord.{RunRecord}
-use Rattle.content_light.specs.Peak.{mostRows, accepted, refused, rowTest}
-use Rattle.content_light.specs.Run.{mostPixels, recordRead, freshRecord, takesOver, withPixel, withPixels, withRow}
+use Rattle.content_light.specs.Peak.{CodedRow, pixelsOf, mostRows, accepted, refused, rowTest}
+use Rattle.content_light.specs.Run.{mostPixels, recordRead, freshRecord, takesOver, withPixel, positionOf, withPixels, withRow}
 use Rattle.content_light.proofs.RecordLaws.{most-rows, rows-kept, position-within, chosen}
 
 -- the fields are in their ranges
@@ -39,35 +36,35 @@ read-same r x =
     rw (a, b, c, d, e)
 
 -- what an accepted row has passed
-pub record Taken (rows : ℕ) (row : List ℕ) : Type 0 where
+pub record Taken (rows : ℕ) (row : CodedRow) : Type 0 where
   pub room : rows < mostRows
-  pub length-passed : lengthRefused (length row) ≡ false
-  pub samples-passed : length row / 2 ≤ firstRefused sampleRefused row 0 (length row / 2)
+  pub length-passed : lengthRefused (length (row .bytes)) ≡ false
+  pub samples-passed : length (row .bytes) / 2 ≤ firstRefused (sampleRefused (row .format)) (row .bytes) 0 (length (row .bytes) / 2)
 
-pub taken : (rows : ℕ) (row : List ℕ) → rowTest rows row ≡ accepted → Taken rows row
+pub taken : (rows : ℕ) (row : CodedRow) → rowTest rows row ≡ accepted → Taken rows row
 unfolding rowTest
-taken rows row h = go (leb mostRows rows) (lengthRefused (length row)) (ltb i (length row / 2)) refl refl refl
+taken rows row h = go (leb mostRows rows) (lengthRefused (length (row .bytes))) (ltb i (length (row .bytes) / 2)) refl refl refl
   where
     i : ℕ
-    i = firstRefused sampleRefused row 0 (length row / 2)
+    i = firstRefused (sampleRefused (row .format)) (row .bytes) 0 (length (row .bytes) / 2)
 
     not-refused : {number place : ℕ} → refused number place ≡ accepted → Taken rows row
     not-refused e = absurd (let n : _≡_ {A = ℕ} 0 1 = cc in omega arith)
 
-    go : (a b c : Bool) → leb mostRows rows ≡ a → lengthRefused (length row) ≡ b → ltb i (length row / 2) ≡ c → Taken rows row
+    go : (a b c : Bool) → leb mostRows rows ≡ a → lengthRefused (length (row .bytes)) ≡ b → ltb i (length (row .bytes) / 2) ≡ c → Taken rows row
     go true b c p q s = not-refused (simp p at h)
     go false true c p q s = not-refused (simp (p, q) at h)
     go false false true p q s = not-refused (simp (p, q, s) at h)
-    go false false false p q s = record { room = leb-false mostRows rows p; length-passed = q; samples-passed = ltb-false i (length row / 2) s }
+    go false false false p q s = record { room = leb-false mostRows rows p; length-passed = q; samples-passed = ltb-false i (length (row .bytes) / 2) s }
 
-in-range-pixels : (r : RunRecord) (row : List ℕ) (n : ℕ) → InRange r → r .rows < mostRows → n ≤ 8192 → InRange (withPixels r row n)
+in-range-pixels : (r : RunRecord) (row : CodedRow) (n : ℕ) → InRange r → r .rows < mostRows → n ≤ 8192 → InRange (withPixels r row n)
 unfolding withPixels withPixel
 in-range-pixels r row zero x l h = x
 in-range-pixels r row (suc n) x l h =
     let s = withPixels r row n in
     let y = in-range-pixels r row n x l (omega arith) in
     let position = position-within r row (suc n) (x .position) in
-    let b = takesOver s (brightestPosition (pixelAt row n)) in
+    let b = takesOver s (positionOf row n) in
     record {
       rows = chosen (λ (t : RunRecord). t .rows ≤ mostRows) b _ _ (y .rows) (y .rows);
       pixels = chosen (λ (t : RunRecord). t .pixels ≤ mostPixels) b _ _ (omega arith) (omega arith);
@@ -76,9 +73,9 @@ in-range-pixels r row (suc n) x l h =
       pixel = chosen (λ (t : RunRecord). t .pixel ≤ 8191) b _ _ (omega arith) (y .pixel);
     }
 
-pub in-range-row : (r : RunRecord) (row : List ℕ) → InRange r → Taken (r .rows) row → InRange (withRow r row)
+pub in-range-row : (r : RunRecord) (row : CodedRow) → InRange r → Taken (r .rows) row → InRange (withRow r row)
 unfolding withRow
 in-range-row r row x t =
-    let pixels : length row / 6 ≤ 8192 = omega (arith, length-taken (length row) (t .length-passed) .1) in
-    let y = in-range-pixels r row (length row / 6) x (t .room) pixels in
-    record { rows = omega (arith, rows-kept r row (length row / 6), t .room); pixels = y .pixels; position = y .position; row = y .row; pixel = y .pixel }
+    let pixels : pixelsOf row ≤ 8192 = omega (arith, length-taken (length (row .bytes)) (t .length-passed) .1) in
+    let y = in-range-pixels r row (pixelsOf row) x (t .room) pixels in
+    record { rows = omega (arith, rows-kept r row (pixelsOf row), t .room); pixels = y .pixels; position = y .position; row = y .row; pixel = y .pixel }

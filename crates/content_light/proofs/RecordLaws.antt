@@ -1,7 +1,6 @@
 -- Laws of a record with more pixels: what stays, how a row goes in that no pixel of which takes over, and what its numbers are as 64-bit ones.
 use mathlib.Core.Path.{_≡_, refl, sym, ap, _∙_}
 use mathlib.Core.Bool.{Bool, true, false, cond}
-use mathlib.Core.List.{List}
 use Prim.Native.Nat.{ℕ, zero, suc, min, _+_, _≤_, _<_}
 use native.Mathlib.Numerals.{add-one}
 use native.Mathlib.Omega.{arith}
@@ -9,15 +8,17 @@ use lib.Dec.{eqb}
 use borrow.Author.Tests.{eqb-false, eq-eqb, ne-eqb}
 use Rattle.quantity.specs.Units.{lastPosition}
 use Rattle.quantity.specs.Component.{brightest}
-use Rattle.position.specs.Position.{codePosition, lightAt}
-use Rattle.position.proofs.LightLaws.{light-grows, code-position-grows}
+use Rattle.position.specs.Position.{lightAt}
+use Rattle.position.specs.Code.{codePosition}
+use Rattle.position.proofs.LightLaws.{light-grows}
+use Rattle.position.proofs.CodeLaws.{position-range, code-position-grows}
 use Rattle.pixel.specs.Conversion.{brightestPosition}
 use Rattle.rows.specs.Row.{pixelAt}
 use Rattle.rows.proofs.AnswerLaws.{neither}
 use Rattle.content_light.specs.declared.RunRecord.{RunRecord}
 use Rattle.content_light.specs.declared.PeakAnswer.the-variants.{Peak, Refused}
-use Rattle.content_light.specs.Peak.{mostRows, outshines, roundedUp, peakOf}
-use Rattle.content_light.specs.Run.{mostPixels, recordRead, takesOver, withPixel, withPixels, held, peakAnswer}
+use Rattle.content_light.specs.Peak.{CodedRow, mostRows, outshines, roundedUp, peakOf}
+use Rattle.content_light.specs.Run.{mostPixels, recordRead, takesOver, withPixel, positionOf, withPixels, held, peakAnswer}
 use Rattle.content_light.specs.Bounds.{Bounded, OfCode}
 use Rattle.content_light.proofs.OutshinesLaws.{dimmer}
 use Rattle.content_light.proofs.BoundLaws.{brightest-bounded}
@@ -31,13 +32,12 @@ unfolding mostPixels mostRows
 most-pixels = refl
 
 -- the position of a pixel's brightest code
-pub position-of-code : (row : List ℕ) (j : ℕ) → OfCode (brightestPosition (pixelAt row j))
+pub position-of-code : (row : CodedRow) (j : ℕ) → OfCode (positionOf row j)
 unfolding brightestPosition
-position-of-code row j = (brightest (pixelAt row j), refl)
+position-of-code row j = (row .format, brightest (pixelAt (row .bytes) j), refl)
 
 pub code-position-within : {m : ℕ} → OfCode m → m ≤ lastPosition
-unfolding lastPosition
-code-position-within (D, e) = omega arith
+code-position-within (f, D, e) = omega (arith, position-range f D)
 
 -- a record that counts so many pixels
 abbrev pub counting : RunRecord → ℕ → RunRecord
@@ -63,11 +63,11 @@ unfolding withPixel
 left-alone r m j t e = rw e (sym (simp t))
 
 -- ---- the pixels of a row
-pub no-pixel : (r : RunRecord) (row : List ℕ) → r ≡ withPixels r row 0
+pub no-pixel : (r : RunRecord) (row : CodedRow) → r ≡ withPixels r row 0
 unfolding withPixels
 no-pixel r row = refl
 
-pub next-pixel : (r : RunRecord) (row : List ℕ) (n : ℕ) {s : RunRecord} {m : ℕ} → s ≡ withPixels r row n → m ≡ brightestPosition (pixelAt row n)
+pub next-pixel : (r : RunRecord) (row : CodedRow) (n : ℕ) {s : RunRecord} {m : ℕ} → s ≡ withPixels r row n → m ≡ positionOf row n
     → withPixel s m n ≡ withPixels r row (n + 1)
 unfolding withPixels
 next-pixel r row n p q = rw (p, q, add-one n)
@@ -78,20 +78,20 @@ chosen P true x y p q = p
 chosen P false x y p q = q
 
 -- pixels do not count rows
-pub rows-kept : (r : RunRecord) (row : List ℕ) (n : ℕ) → withPixels r row n .rows ≡ r .rows
+pub rows-kept : (r : RunRecord) (row : CodedRow) (n : ℕ) → withPixels r row n .rows ≡ r .rows
 unfolding withPixels withPixel
 rows-kept r row zero = refl
 rows-kept r row (suc n) =
     let s = withPixels r row n in
-    chosen (λ (x : RunRecord). x .rows ≡ r .rows) (takesOver s (brightestPosition (pixelAt row n))) _ _ (rows-kept r row n) (rows-kept r row n)
+    chosen (λ (x : RunRecord). x .rows ≡ r .rows) (takesOver s (positionOf row n)) _ _ (rows-kept r row n) (rows-kept r row n)
 
 -- a found position is one of the range
-pub position-within : (r : RunRecord) (row : List ℕ) (n : ℕ) → r .position .0 ≤ lastPosition → withPixels r row n .position .0 ≤ lastPosition
+pub position-within : (r : RunRecord) (row : CodedRow) (n : ℕ) → r .position .0 ≤ lastPosition → withPixels r row n .position .0 ≤ lastPosition
 unfolding withPixels withPixel
 position-within r row zero h = h
 position-within r row (suc n) h =
     let s = withPixels r row n in
-    chosen (λ (x : RunRecord). x .position .0 ≤ lastPosition) (takesOver s (brightestPosition (pixelAt row n))) _ _
+    chosen (λ (x : RunRecord). x .position .0 ≤ lastPosition) (takesOver s (positionOf row n)) _ _
     (code-position-within (position-of-code row n)) (position-within r row n h)
 
 -- a record that counts n more
@@ -99,14 +99,15 @@ abbrev pub countingOn : RunRecord → ℕ → RunRecord
 countingOn r n = counting r (min (r .pixels + n) mostPixels)
 
 -- the light at the position of a pixel's brightest code is at most that of the bound
-light-bounded : {row : List ℕ} {n least most : ℕ} → Bounded row n least most → (j : ℕ) → j < n
-    → lightAt (brightestPosition (pixelAt row j)) ≤ lightAt (codePosition most)
+light-bounded : (row : CodedRow) {n least most : ℕ} → Bounded (row .bytes) n least most → (j : ℕ) → j < n
+    → lightAt (positionOf row j) ≤ lightAt (codePosition (row .format) most)
 unfolding brightestPosition
-light-bounded {row} {n} {least} {most} b j h =
-    light-grows _ _ (code-position-grows (brightest (pixelAt row j)) most (brightest-bounded b j h))
+light-bounded row {n} {least} {most} b j h =
+    light-grows _ _ (code-position-grows (row .format) (brightest (pixelAt (row .bytes) j)) most (brightest-bounded b j h))
 
 -- Where a pixel of the bound itself would not take over, the row's pixels only count.
-pub only-counted : (r : RunRecord) (row : List ℕ) {n most : ℕ} → Bounded row n 0 most → r .pixels ≤ mostPixels → takesOver r (codePosition most) ≡ false
+pub only-counted : (r : RunRecord) (row : CodedRow) {n most : ℕ} → Bounded (row .bytes) n 0 most → r .pixels ≤ mostPixels
+    → takesOver r (codePosition (row .format) most) ≡ false
     → (k : ℕ) → k ≤ n → withPixels r row k ≡ countingOn r k
 unfolding takesOver withPixels withPixel
 only-counted r row {n} {most} b p t zero h = let e : r .pixels ≡ min (r .pixels + 0) mostPixels = omega arith in ap (counting r) e
@@ -114,16 +115,16 @@ only-counted r row {n} {most} b p t (suc k) h =
     ap (λ (s : RunRecord). withPixel s m k) (only-counted r row b p t k (omega arith)) ∙ step
   where
     m : ℕ
-    m = brightestPosition (pixelAt row k)
+    m = positionOf row k
 
-    none : (eqb (r .pixels) 0 ≡ false) × (outshines (lightAt (codePosition most)) (lightAt (r .position .0)) ≡ false)
+    none : (eqb (r .pixels) 0 ≡ false) × (outshines (lightAt (codePosition (row .format) most)) (lightAt (r .position .0)) ≡ false)
     none = neither _ _ t
 
     some : eqb (min (r .pixels + k) mostPixels) 0 ≡ false
     some = ne-eqb _ 0 (λ (z : min (r .pixels + k) mostPixels ≡ 0). eqb-false (r .pixels) 0 (none .0) (omega (arith, most-pixels)))
 
     dim : outshines (lightAt m) (lightAt (r .position .0)) ≡ false
-    dim = dimmer _ _ _ (light-bounded b k (omega arith)) (none .1)
+    dim = dimmer _ _ _ (light-bounded row b k (omega arith)) (none .1)
 
     step : withPixel (countingOn r k) m k ≡ countingOn r (suc k)
     step =

@@ -1,10 +1,8 @@
 -- The record of a measuring run and what its calls answer (request 01), for every record, also those that no run makes.
 -- Positions are in 1/897,024 of the PQ signal; rows and pixels are counted from 0.
-use Prim.Native.Nat.{ℕ, zero, suc, min, _*_, _/_}
+use Prim.Native.Nat.{ℕ, zero, suc, min, _*_}
 use mathlib.Core.Bool.{Bool, cond, _||_}
-use mathlib.Core.List.{List}
 use lib.Dec.{eqb}
-use lib.ListN.{length}
 use Rattle.quantity.specs.Units.{lastPosition}
 use Rattle.position.specs.Position.{lightAt}
 use Rattle.pixel.specs.Conversion.{brightestPosition}
@@ -13,7 +11,7 @@ use Rattle.content_light.specs.declared.RunRecord.{RunRecord}
 use Rattle.content_light.specs.declared.RecordAnswer.{RecordAnswer}
 use Rattle.content_light.specs.declared.RecordAnswer.the-variants.{Measured, Refused}
 use Rattle.content_light.specs.declared.PeakAnswer.{PeakAnswer}
-use Rattle.content_light.specs.Peak.{mostRows, Test, accepted, refused, rowTest, outshines, Brightest, none, found, peakOf}
+use Rattle.content_light.specs.Peak.{CodedRow, pixelsOf, mostRows, Test, accepted, refused, rowTest, outshines, Brightest, none, found, peakOf}
 
 -- the most pixels that a run counts: 8,192 in each row
 unfoldable pub mostPixels : ℕ
@@ -45,15 +43,19 @@ withPixel r m j =
     (record { rows = r .rows; pixels = pixels; position = record { 0 = m }; row = r .rows; pixel = j })
     (record { rows = r .rows; pixels = pixels; position = r .position; row = r .row; pixel = r .pixel })
 
+-- the position of the brightest code of pixel j of a row
+abbrev pub positionOf : CodedRow → ℕ → ℕ
+positionOf row j = brightestPosition (row .format) (pixelAt (row .bytes) j)
+
 -- with the first n pixels of the next row
-unfoldable pub withPixels : RunRecord → List ℕ → ℕ → RunRecord
+unfoldable pub withPixels : RunRecord → CodedRow → ℕ → RunRecord
 withPixels r row zero = r
-withPixels r row (suc n) = withPixel (withPixels r row n) (brightestPosition (pixelAt row n)) n
+withPixels r row (suc n) = withPixel (withPixels r row n) (positionOf row n) n
 
 -- with the whole row, which is counted then
-unfoldable pub withRow : RunRecord → List ℕ → RunRecord
+unfoldable pub withRow : RunRecord → CodedRow → RunRecord
 withRow r row =
-    let s = withPixels r row (length row / 6) in
+    let s = withPixels r row (pixelsOf row) in
     record { rows = suc (s .rows); pixels = s .pixels; position = s .position; row = s .row; pixel = s .pixel }
 
 abbrev pub answerAfter : Test → RunRecord → RecordAnswer
@@ -61,7 +63,7 @@ answerAfter accepted r = Measured r
 answerAfter (refused number place) r = Refused number place
 
 -- what the call for a row answers: its refusal, or the record with the row in it
-unfoldable pub recordAnswer : RunRecord → List ℕ → RecordAnswer
+unfoldable pub recordAnswer : RunRecord → CodedRow → RecordAnswer
 recordAnswer r row = let s = recordRead r in answerAfter (rowTest (s .rows) row) (withRow s row)
 
 -- the brightest pixel that a record holds

@@ -5,12 +5,13 @@ mod walk;
 ghost use mathlib.Core.Path.{_≡_};
 ghost use Prim.Native.Nat.{_≤_};
 ghost use Rattle.quantity.specs.Units.{tenThousand};
-ghost use Rattle.content_light.specs.Peak.{roundedUp};
+ghost use Rattle.content_light.specs.Peak.{rowIn, roundedUp};
 ghost use Rattle.content_light.specs.Run.{freshRecord, recordRead, recordAnswer, peakAnswer};
 use position::light_at;
 use quantity::LAST_POSITION;
 use quantity::Position;
 use quantity::UNITS;
+use quantity::sample_format::SampleFormat;
 use quantity::smaller;
 use rows::refuses_length;
 use walk::first_untaken;
@@ -65,9 +66,9 @@ pub fn fresh_record() -> RunRecord
     }
 }
 
-// The record with a row's pixels in it. Refuses 13, then 6, then 9.
-pub fn measure_row(run: RunRecord, row: &[u8]) -> RecordAnswer
-    ensures { λ r. ⌜ r ≡ recordAnswer run (now (row .entry)) ⌝ }
+// The record with a row's pixels in it, whose samples are coded in this format. Refuses 13, then 6, then 9.
+pub fn measure_row(run: RunRecord, format: SampleFormat, row: &[u8]) -> RecordAnswer
+    ensures { λ r. ⌜ r ≡ recordAnswer run (rowIn format (now (row .entry))) ⌝ }
 {
     if MOST_ROWS <= run.rows {
         return RecordAnswer::Refused(13, 0);
@@ -76,11 +77,11 @@ pub fn measure_row(run: RunRecord, row: &[u8]) -> RecordAnswer
         return RecordAnswer::Refused(6, 0);
     }
     let bounds = sample_bounds(row);
-    let i = first_untaken(row, bounds.least, bounds.most);
+    let i = first_untaken(format, row, bounds.least, bounds.most);
     if i < row.len() / 2 {
         return RecordAnswer::Refused(9, i as u64);
     }
-    RecordAnswer::Measured(with_row(read_record(run), row, bounds.most))
+    RecordAnswer::Measured(with_row(read_record(run), format, row, bounds.most))
 }
 
 // The peak that a record has measured, rounded up so that no pixel lies above it. Refuses 12.

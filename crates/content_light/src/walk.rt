@@ -9,17 +9,18 @@ ghost use Rattle.pixel.specs.Conversion.{brightestPosition};
 ghost use Rattle.rows.specs.Row.{pixelAt};
 ghost use Rattle.rows.specs.Answer.{firstRefused};
 ghost use Rattle.pq_hlg.specs.Pixel.{sampleRefused};
-ghost use Rattle.content_light.specs.Peak.{mostRows, outshines};
+ghost use Rattle.content_light.specs.Peak.{rowIn, mostRows, outshines};
 ghost use Rattle.content_light.specs.Run.{mostPixels, takesOver, withPixel, withPixels, withRow};
 ghost use Rattle.content_light.specs.Bounds.{Bounded, OfCode};
 use crate::MOST_PIXELS;
 use crate::RunRecord;
-use position::code_position;
-use pq_hlg::LEAST_SAMPLE;
-use pq_hlg::MOST_SAMPLE;
+use position::code::code_position;
 use quantity::Position;
 use quantity::brightest_of;
 use quantity::larger;
+use quantity::sample_format::SampleFormat;
+use quantity::sample_format::least_taken;
+use quantity::sample_format::most_taken;
 use quantity::smaller;
 use rows::first_refused;
 use rows::sample_at;
@@ -55,26 +56,28 @@ pub(crate) fn sample_bounds(row: &[u8]) -> Bounds
 }
 
 // The first sample that is not taken, else how many there are. Most rows are known by their bounds.
-pub(crate) fn first_untaken(row: &[u8], least: u64, most: u64) -> usize
+pub(crate) fn first_untaken(format: SampleFormat, row: &[u8], least: u64, most: u64) -> usize
     requires { ⌜ (length (now row) % 6 ≡ 0) × Bounded (now row) (length (now row) / 6) least most ⌝ }
-    ensures { λ r. ⌜ r ≡ firstRefused sampleRefused (now (row .entry)) 0 (length (now (row .entry)) / 2) ⌝ }
+    ensures { λ r. ⌜ r ≡ firstRefused (sampleRefused format) (now (row .entry)) 0 (length (now (row .entry)) / 2) ⌝ }
 {
-    if least < LEAST_SAMPLE {
-        return first_refused(row, 0, row.len() / 2, LEAST_SAMPLE, MOST_SAMPLE);
+    let least_code = least_taken(format);
+    let most_code = most_taken(format);
+    if least < least_code {
+        return first_refused(row, 0, row.len() / 2, least_code, most_code);
     }
-    if MOST_SAMPLE < most {
-        return first_refused(row, 0, row.len() / 2, LEAST_SAMPLE, MOST_SAMPLE);
+    if most_code < most {
+        return first_refused(row, 0, row.len() / 2, least_code, most_code);
     }
     row.len() / 2
 }
 
 // A record with a row counted, none of whose samples exceeds `most`.
-pub(crate) fn with_row(run: RunRecord, row: &[u8], most: u64) -> RunRecord
+pub(crate) fn with_row(run: RunRecord, format: SampleFormat, row: &[u8], most: u64) -> RunRecord
     requires { ⌜ (run .rows < mostRows) × (run .pixels ≤ mostPixels) × (run .position .0 ≤ lastPosition) × (length (now row) ≤ 49152)
         × Bounded (now row) (length (now row) / 6) 0 most ⌝ }
-    ensures { λ r. ⌜ r ≡ withRow run (now (row .entry)) ⌝ }
+    ensures { λ r. ⌜ r ≡ withRow run (rowIn format (now (row .entry))) ⌝ }
 {
-    let found = with_pixels(run, row, most);
+    let found = with_pixels(run, format, row, most);
     let position = found.position;
     RunRecord {
         rows: found.rows + 1,
@@ -85,13 +88,13 @@ pub(crate) fn with_row(run: RunRecord, row: &[u8], most: u64) -> RunRecord
     }
 }
 
-fn with_pixels(run: RunRecord, row: &[u8], most: u64) -> RunRecord
+fn with_pixels(run: RunRecord, format: SampleFormat, row: &[u8], most: u64) -> RunRecord
     requires { ⌜ (run .pixels ≤ mostPixels) × (run .position .0 ≤ lastPosition) × (length (now row) ≤ 49152)
         × Bounded (now row) (length (now row) / 6) 0 most ⌝ }
-    ensures { λ r. ⌜ r ≡ withPixels run (now (row .entry)) (length (now (row .entry)) / 6) ⌝ }
+    ensures { λ r. ⌜ r ≡ withPixels run (rowIn format (now (row .entry))) (length (now (row .entry)) / 6) ⌝ }
 {
-    if takes_over(run, code_position(most)) {
-        return walk_pixels(run, row);
+    if takes_over(run, code_position(format, most)) {
+        return walk_pixels(run, format, row);
     }
     let position = run.position;
     RunRecord {
@@ -103,29 +106,29 @@ fn with_pixels(run: RunRecord, row: &[u8], most: u64) -> RunRecord
     }
 }
 
-fn walk_pixels(run: RunRecord, row: &[u8]) -> RunRecord
+fn walk_pixels(run: RunRecord, format: SampleFormat, row: &[u8]) -> RunRecord
     requires { ⌜ run .position .0 ≤ lastPosition ⌝ }
-    ensures { λ r. ⌜ r ≡ withPixels run (now (row .entry)) (length (now (row .entry)) / 6) ⌝ }
+    ensures { λ r. ⌜ r ≡ withPixels run (rowIn format (now (row .entry))) (length (now (row .entry)) / 6) ⌝ }
 {
     let pixels = row.len() / 6;
     let mut found = run;
     let mut j = 0;
     while j < pixels {
-        found = with_pixel(found, brightest_position(row, j), j as u64);
+        found = with_pixel(found, brightest_position(format, row, j), j as u64);
         j += 1;
     }
     found
 }
 
 // The position of the brightest code of pixel j.
-fn brightest_position(row: &[u8], j: usize) -> Position
+fn brightest_position(format: SampleFormat, row: &[u8], j: usize) -> Position
     requires { ⌜ j < length (now row) / 6 ⌝ }
-    ensures { λ r. ⌜ r .0 ≡ brightestPosition (pixelAt (now (row .entry)) j) ⌝ }
+    ensures { λ r. ⌜ r .0 ≡ brightestPosition format (pixelAt (now (row .entry)) j) ⌝ }
 {
     let r = sample_at(row, 3 * j);
     let g = sample_at(row, 3 * j + 1);
     let b = sample_at(row, 3 * j + 2);
-    code_position(brightest_of(r, g, b))
+    code_position(format, brightest_of(r, g, b))
 }
 
 fn with_pixel(run: RunRecord, m: Position, j: u64) -> RunRecord
@@ -172,7 +175,7 @@ fn takes_over(run: RunRecord, m: Position) -> bool
     outshines(m, position)
 }
 
-// A code's position is an entry of the light table, and the light rises up to each: positions compare as their lights do.
+// The light rises up to each position of a code: there positions compare as their lights do.
 fn outshines(m: Position, found: Position) -> bool
     requires { ⌜ (found .0 ≤ lastPosition) × OfCode (m .0) ⌝ }
     ensures { λ r. ⌜ r ≡ outshines (lightAt (m .0)) (lightAt (found .0)) ⌝ }

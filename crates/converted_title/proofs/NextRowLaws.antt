@@ -34,7 +34,8 @@ converted-text source row n room =
     let bytes = spanBytes (code source) row 0 n in
     let l = length-span (code source) row 0 n in
     let pixels : length bytes / 6 ≡ n = omega arith in
-    simp (eq-eqb (length bytes % 6) 0 (omega arith), pixels, lines-same (pixelAt bytes) (λ j. code source (pixelAt row j)) n (pixel-of-span (code source) row n))
+    let text = lines-same (pixelAt bytes) (λ j. code source (pixelAt row j)) n (pixel-of-span (code source) row n) in
+    simp (eq-eqb (length bytes % 6) 0 (omega arith), pixels, text)
 
 -- a whole row that is converted fills its destination
 pub whole-destination : (source : Source) (row codes : List ℕ) → rowAnswer source row (length codes) 0 (length row / 6) ≡ Converted
@@ -64,7 +65,7 @@ after-test false place = refl
 
 -- Of the row call's refusals a title's row only meets 9: peak and width are in their ranges, and the codes have the row's length.
 pub only-nine : (source : Source) (width : ℕ) (row : List ℕ) → 1 ≤ source .peak → source .peak ≤ 10000 → 1 ≤ width → width ≤ 8192 → length row ≡ 6 * width
-    → nextRow source width row (length row) ≡ cond (ltb (firstRefused sampleRefused row 0 (3 * width)) (3 * width)) (Stop 9) Listed
+    → nextRow source width row (length row) ≡ cond (ltb (firstRefused (sampleRefused (source .format)) row 0 (3 * width)) (3 * width)) (Stop 9) Listed
 unfolding rowAnswer peakRefused spanAnswer lengthRefused destinationRefused spanRefused
 only-nine source width row p q v w l =
     let pixels : length row / 6 ≡ width = omega arith in
@@ -76,7 +77,7 @@ only-nine source width row p q v w l =
     let first = le-ltb width 0 (omega arith) in
     let end = le-ltb width width (omega arith) in
     let all : width - 0 ≡ width = omega arith in
-    let i = firstRefused sampleRefused row 0 (3 * width) in
+    let i = firstRefused (sampleRefused (source .format)) row 0 (3 * width) in
     next-by source width row (length row) (whole width row (omega arith) (omega arith))
     ∙ simp (pixels, some, most, sixes, short, same, first, end, all) (after-test (ltb i (3 * width)) i)
 

@@ -61,3 +61,52 @@ firstCell = 2199
 
 abbrev pub cells : ℕ
 cells = 436
+
+-- ---- full range: the lights of the codes 1, 3 and 4 of twelve bits. The first is the least above black; up to the third a pixel is dim, and from the
+-- fourth on, which is the first of ten bits, it is lit
+abbrev pub firstLight : ℕ
+firstLight = 69
+
+abbrev pub dimLight : ℕ
+dimLight = 423
+
+abbrev pub litLight : ℕ
+litLight = 684
+
+abbrev pub litLuminance : ℕ
+litLuminance = 593 * litLight
+
+-- the same of a lit pixel as above: units off a result and ten-thousandths off the luminance, slopes and rooms, and the ratio that they leave
+abbrev pub fullResultAbove : ℕ
+fullResultAbove = 22
+
+abbrev pub fullResultBelow : ℕ
+fullResultBelow = 25
+
+abbrev pub fullLuminanceBelow : ℕ
+fullLuminanceBelow = 250000
+
+abbrev pub fullLuminanceAbove : ℕ
+fullLuminanceAbove = 215000
+
+abbrev pub fullSlopeAbove : ℕ
+fullSlopeAbove = 2100
+
+abbrev pub fullSlopeBelow : ℕ
+fullSlopeBelow = 1790
+
+abbrev pub fullRoomAbove : ℕ
+fullRoomAbove = 300000
+
+abbrev pub fullRoomBelow : ℕ
+fullRoomBelow = 200000
+
+abbrev pub fullRatioUnder : ℕ
+fullRatioUnder = 280
+
+abbrev pub fullRatioOver : ℕ
+fullRatioOver = 281
+
+-- the lights of a dim pixel are enclosed within this ratio
+abbrev pub dimRatio : ℕ
+dimRatio = 2

@@ -11,5 +11,12 @@ pub mod LightLaws
 pub mod BentSignalLaws
 pub mod BentLightTests
 pub mod BentLightLaws
+pub mod FullRangeSteps
+pub mod FullRangeNear
+pub mod FirstCodes
+pub mod FullRangeCodes
+pub mod FullRangeBent
+pub mod DimDistance
+pub mod FullRangeDistance
 pub mod Theorem
 pub mod BoundLaws

@@ -1,7 +1,7 @@
 -- Entries of the light table as lower and upper fractions of lights, by the way in which they are rounded, and the light of each code among them.
-use mathlib.Core.Path.{_≡_, refl}
+use mathlib.Core.Path.{_≡_, _∙_, ap}
 use mathlib.Core.Logic.{inl, inr}
-use Prim.Native.Nat.{ℕ, _-_, _*_, _≤_, _<_}
+use Prim.Native.Nat.{ℕ, _*_, _≤_, _<_}
 use native.Mathlib.Nat.{zero-lt-suc}
 use native.Mathlib.Decide.{decLe}
 use native.Mathlib.Omega.{arith}
@@ -9,12 +9,20 @@ use lib.Dec.{lit≤}
 use Rattle.laws.specs.Fraction.{Fraction, _≼_}
 use Rattle.laws.specs.Side.{Side, low, high, other}
 use Rattle.laws.proofs.FractionLaws.{≼-trans, ≼-zero}
+use Rattle.quantity.specs.declared.sample_format.Depth.{Depth}
+use Rattle.quantity.specs.declared.sample_format.Depth.the-variants.{Ten, Twelve}
+use Rattle.quantity.specs.declared.sample_format.Range.the-variants.{Narrow}
+use Rattle.quantity.specs.declared.sample_format.SampleFormat.{SampleFormat}
+use Rattle.quantity.specs.SampleFormat.{excursion, coded}
 use Rattle.pq.specs.Pq.{indexSignal}
 use Rattle.pq.specs.LightTable.{lightEntry}
 use Rattle.pq.proofs.PqLaws.{at-least-of-above, at-most-signal, at-least-signal, at-most-light, at-least-light}
-use Rattle.pq.proofs.EntryLaws.{entry-at-most, entry-above, entry-first}
-use Rattle.position.specs.Position.{codeRead, codeIndex, codeLight}
-use Rattle.exact.specs.ExactValue.{signal, Value, Light}
+use Rattle.pq.proofs.EntryLaws.{entry-at-most, entry-above}
+use Rattle.position.specs.Position.{lightAt}
+use Rattle.position.specs.Code.{aboveBlack, codeSignal, codeLight}
+use Rattle.position.proofs.LightLaws.{light-at-entry}
+use Rattle.position.proofs.CodeLaws.{black-light, indices, narrow-position}
+use Rattle.exact.specs.ExactValue.{Value, Light}
 use Rattle.exact.proofs.FinerLaws.{same-value}
 use Rattle.distance.proofs.NearLaws.{Rounding, around}
 
@@ -38,21 +46,49 @@ unfolding Light
 same-light s x y l e (inl a) = inl (≼-zero {p = y} {q = x} (record { cross = omega arith }) (a .0), a .1)
 same-light s x y l e (inr a) = inr (same-value (other s) l x y e a)
 
--- ---- codes
-pub code-entry : (D : ℕ) → codeLight D ≡ lightEntry (codeIndex D)
-unfolding codeLight
-code-entry D = refl
+-- ---- codes of narrow range, whose positions are those of entries
+module _ (d : Depth) (D : ℕ) where
+  abbrev pub narrow : SampleFormat
+  narrow = coded d Narrow
 
--- black has no light
-pub unlit : (D : ℕ) → codeRead D - 64 ≡ 0 → codeLight D ≡ 0
-unlit D e = let z : codeIndex D ≡ 0 = omega arith in rw (code-entry D, z) entry-first
+  abbrev pub codeIndex : ℕ
+  codeIndex = indices d * aboveBlack narrow D
 
--- the light of a code lies around its entry
-pub code-light : (s : Side) (D : ℕ) → Light s (signal D) (around entries s (codeLight D))
-unfolding Light
-code-light high D = light-high (codeIndex D) _ (omega arith) (record { cross = omega arith }) (record { cross = omega (arith, code-entry D) })
-code-light low D = go (decLe 1 (codeRead D - 64))
-  where
-    go : Dec (1 ≤ codeRead D - 64) → Light low (signal D) (around entries low (codeLight D))
-    go (yes h) = light-low (codeIndex D) _ (omega arith) (omega arith) (record { cross = omega arith }) (record { cross = omega (arith, code-entry D) })
-    go (no h) = let e : codeRead D - 64 ≡ 0 = omega arith in inl (e, omega (arith, unlit D e))
+  pub index-range : codeIndex ≤ 3504
+  index-range = go d
+    where
+      go : (d : Depth) → indices d * aboveBlack (coded d Narrow) D ≤ 3504
+      go Ten = omega arith
+      go Twelve = omega arith
+
+  -- its signal is that of the code
+  pub index-signal : codeIndex * excursion narrow ≡ aboveBlack narrow D * 3504
+  index-signal = go d
+    where
+      go : (d : Depth) → indices d * aboveBlack (coded d Narrow) D * excursion (coded d Narrow) ≡ aboveBlack (coded d Narrow) D * 3504
+      go Ten = omega arith
+      go Twelve = omega arith
+
+  pub index-some : 0 < aboveBlack narrow D → 0 < codeIndex
+  index-some h = go d h
+    where
+      go : (d : Depth) → 0 < aboveBlack (coded d Narrow) D → 0 < indices d * aboveBlack (coded d Narrow) D
+      go Ten h = omega arith
+      go Twelve h = omega arith
+
+  code-entry : codeLight narrow D ≡ lightEntry codeIndex
+  unfolding codeLight
+  code-entry = ap lightAt (narrow-position d D) ∙ light-at-entry codeIndex
+
+  -- the light of a code lies around its entry
+  pub code-light : (s : Side) → Light s (codeSignal narrow D) (around entries s (codeLight narrow D))
+  unfolding Light
+  code-light high = light-high codeIndex _ index-range (record { cross = omega (arith, index-signal) }) (record { cross = omega (arith, code-entry) })
+  code-light low = go (decLe 1 (aboveBlack narrow D))
+    where
+      go : Dec (1 ≤ aboveBlack narrow D) → Light low (codeSignal narrow D) (around entries low (codeLight narrow D))
+      go (yes h) =
+          light-low codeIndex _ (index-some h) index-range (record { cross = omega (arith, index-signal) }) (record { cross = omega (arith, code-entry) })
+      go (no h) =
+          let e : aboveBlack narrow D ≡ 0 = omega arith in
+          inl (e, omega (arith, black-light narrow D e))

@@ -1,32 +1,41 @@
--- Demand 3, whole: every peak from 1 to 10,000 and every pixel of codes from 4 to 1,019, about the definitions of mapped components and HLG codes.
-use mathlib.Core.Path.{_≡_, _∙_, sym, subst}
+-- Demand 3, whole: every peak from 1 to 10,000, every depth and range and every pixel of codes that are taken, about the definitions of mapped
+-- components and HLG codes.
+use mathlib.Core.Path.{_≡_, _∙_, sym, ap, subst}
 use mathlib.Core.Logic.{_⊎_, inl, inr}
 use Prim.Native.Nat.{ℕ, _+_, _-_, _*_, _≤_, _<_}
-use native.Mathlib.Nat.{le-refl, lt-of-not-le}
+use native.Mathlib.Nat.{le-refl, le-of-eq, lt-of-not-le}
 use native.Mathlib.Decide.{decLe}
 use native.Mathlib.Omega.{arith}
 use lib.Dec.{lit<}
 use Rattle.laws.specs.Fraction.{Fraction}
+use Rattle.laws.specs.Side.{low, high}
 use Rattle.laws.proofs.SideLaws.{at-refl}
 use Rattle.quantity.specs.Units.{units}
+use Rattle.quantity.specs.declared.sample_format.Depth.{Depth}
+use Rattle.quantity.specs.declared.sample_format.Range.{Range}
+use Rattle.quantity.specs.declared.sample_format.Range.the-variants.{Narrow, Full}
+use Rattle.quantity.specs.declared.sample_format.SampleFormat.{SampleFormat}
 use Rattle.quantity.specs.declared.Source.{Source}
+use Rattle.quantity.specs.SampleFormat.{excursion, coded}
 use Rattle.quantity.specs.Component.{Component, Pixel, brightest}
 use Rattle.pq.specs.Pq.{positionSignal}
-use Rattle.position.specs.Position.{codeRead, codeIndex, codePosition, lightAt, positionOf}
-use Rattle.position.proofs.LightLaws.{code-position}
+use Rattle.position.specs.Position.{lightAt, positionOf}
+use Rattle.position.specs.Code.{aboveBlack, codeSignal, codePosition}
+use Rattle.position.proofs.CodeLaws.{black-light, narrow-position}
 use Rattle.position.proofs.PeakLaws.{thousand-position}
 use Rattle.eetf.specs.Curve.{bentLight}
 use Rattle.eetf.proofs.CurveLaws.{bent-le-thousand}
 use Rattle.pixel.specs.Conversion.{mappedOf, codeOf, lights, brightestPosition, code}
-use Rattle.pixel.proofs.PixelLaws.{Mapped, ratio-kept, bent-of-light, light-of-brightest, brightest-lit, code-dark, mapped-at-most}
+use Rattle.pixel.proofs.PixelLaws.{Mapped, light-ratio-kept, light-of-brightest, brightest-lit, code-dark, mapped-at-most}
 use Rattle.pixel.proofs.OrderLaws.{ordered, greys}
-use Rattle.exact.specs.ExactValue.{Given, ofCodes, signal}
-use Rattle.distance.specs.Demand.{LessThan, AtMost, Enclosed, BelowKnee, Voted, Demand}
+use Rattle.exact.specs.ExactValue.{Given, ofCodes}
+use Rattle.distance.specs.Demand.{LessThan, AtMost, Enclosed, BelowKnee, Unbent, Anywhere, Voted, Demand}
 use Rattle.distance.proofs.FoundNumbers.{roomAbove, roomBelow, ratioUnder, ratioOver, kneeHalves, thousandAt}
 use Rattle.distance.proofs.StepTests.{sixteenths-low, sixteenths-high, ratios}
 use Rattle.distance.proofs.CodeDistance.{Ending, nine-sixteenths, less-than-two, none}
 use Rattle.distance.proofs.PixelDistance.{bounded, wider, black}
-use Rattle.distance.proofs.LightLaws.{entries, same-light, unlit, code-light}
+use Rattle.distance.proofs.LightLaws.{entries, same-light, codeIndex, index-range, index-signal, index-some, code-light}
+use Rattle.distance.proofs.FullRangeDistance.{full-range}
 use Rattle.distance.proofs.BentLightLaws.{Indexed, Enclosure, lit-light, own-light, left, on-curve}
 
 -- ---- a pixel whose brightest light is that of an index, m being its position
@@ -35,9 +44,7 @@ module _ {G : Given} {x : Pixel} {m : ℕ} (I : Indexed G x m) (peak : ℕ) (mos
   some = omega (arith, lit-light I peak most)
 
   maps : Mapped (lightAt m) (bentLight peak (lightAt m) m) x (mappedOf peak x m)
-  maps =
-      subst (λ M. Mapped M (bentLight peak (lightAt m) m) x (mappedOf peak x m)) (I .lit)
-      (subst (λ n. Mapped (brightest x) n x (mappedOf peak x m)) (bent-of-light peak x m (I .lit)) (ratio-kept peak x m (omega (arith, I .lit, some))))
+  maps = light-ratio-kept peak x m (I .lit) some
 
   -- from an enclosure of the bent light to the bound that its ratio allows
   by-enclosure : {p q : ℕ} {Inside : ℕ → Fraction → Type 0} → Enclosure p q G peak m → 0 < p → 0 < q
@@ -66,55 +73,77 @@ module _ {G : Given} {x : Pixel} {m : ℕ} (I : Indexed G x m) (peak : ℕ) (mos
           by-enclosure (on-curve I peak most (lt-of-not-le h) (lt-of-not-le g)) (lit< tt) (lit< tt)
           (less-than-two ratioUnder ratioOver roomAbove roomBelow ratios) i
 
--- ---- codes: the position of each is that of an index
-module _ (source : Source) (p : Pixel) (most : source .peak ≤ 10000) where
-  abbrev peak : ℕ
-  peak = source .peak
+-- ---- codes of narrow range: the position of each is that of an index
+abbrev sourceOf : ℕ → Depth → Range → Source
+sourceOf peak d r = record { peak = peak; format = coded d r }
+
+module _ (d : Depth) (p : Pixel) (peak : ℕ) (most : peak ≤ 10000) where
+  abbrev f : SampleFormat
+  f = coded d Narrow
 
   abbrev D : ℕ
   D = brightest p
 
-  indexed : 0 < codeRead D - 64 → Indexed (ofCodes p) (lights p) (brightestPosition p)
+  indexed : 0 < aboveBlack f D → Indexed (ofCodes f p) (lights f p) (brightestPosition f p)
   unfolding brightestPosition
   indexed h =
       record {
-        k = codeIndex D;
-        at = code-position D;
-        some = omega arith;
-        range = omega arith;
+        k = codeIndex d D;
+        at = narrow-position d D;
+        some = index-some d D h;
+        range = index-range d D;
         seen = h;
-        lit = brightest-lit p;
-        signal = λ s. omega arith;
-        own = λ s i. code-light s (p i);
-        most = λ s l. same-light s (positionSignal (codePosition D)) (signal D) l (omega arith);
+        lit = brightest-lit f p;
+        signal = elim [ low ↦ le-of-eq same | high ↦ le-of-eq (sym same) ];
+        own = λ s i. code-light d (p i) s;
+        most = λ s l. same-light s (positionSignal (codePosition f D)) (codeSignal f D) l same;
       }
+    where
+      same : codePosition f D * excursion f ≡ aboveBlack f D * 897024
+      same = omega (arith, ap (λ q. q * excursion f) (narrow-position d D), index-signal d D)
 
   -- a bound for codes: by the index, or in a black pixel
   by-index : (Inside : ℕ → Fraction → Type 0) → Inside 64 none
-      → (Indexed (ofCodes p) (lights p) (brightestPosition p) → (i : Component)
-      → Enclosed (ofCodes p) peak i (Inside (codeOf peak (lights p) (brightestPosition p) i)))
-      → (i : Component) → Enclosed (ofCodes p) peak i (Inside (code source p i))
+      → (Indexed (ofCodes f p) (lights f p) (brightestPosition f p) → (i : Component)
+      → Enclosed (ofCodes f p) peak i (Inside (codeOf peak (lights f p) (brightestPosition f p) i)))
+      → (i : Component) → Enclosed (ofCodes f p) peak i (Inside (code (sourceOf peak d Narrow) p i))
   unfolding code
-  by-index Inside zero f i = go (decLe 1 (codeRead D - 64))
+  by-index Inside zero g i = go (decLe 1 (aboveBlack f D))
     where
-      go : Dec (1 ≤ codeRead D - 64) → Enclosed (ofCodes p) peak i (Inside (code source p i))
-      go (yes h) = f (indexed h) i
+      go : Dec (1 ≤ aboveBlack f D) → Enclosed (ofCodes f p) peak i (Inside (code (sourceOf peak d Narrow) p i))
+      go (yes h) = g (indexed h) i
       go (no h) =
-          let e : codeRead D - 64 ≡ 0 = omega arith in
-          subst (λ c. Enclosed (ofCodes p) peak i (Inside c)) (sym (code-dark source p (light-of-brightest p ∙ unlit D e) i)) (black e zero)
+          let e : aboveBlack f D ≡ 0 = omega arith in
+          subst (λ c. Enclosed (ofCodes f p) peak i (Inside c)) (sym (code-dark (sourceOf peak d Narrow) p (light-of-brightest f p ∙ black-light f D e) i))
+          (black e zero)
 
-  below : (peak ≤ 1000) ⊎ BelowKnee source p → (peak ≤ 1000) ⊎ (2 * brightestPosition p + kneeHalves + positionOf (peak * units) ≤ 3 * thousandAt)
+-- ---- either range
+module _ (d : Depth) (p : Pixel) (peak : ℕ) (most : peak ≤ 10000) where
+  near : (r : Range) (i : Component) → Enclosed (ofCodes (coded d r) p) peak i (Anywhere r (code (sourceOf peak d r) p i))
+  unfolding code none
+  near Narrow = by-index d p peak most (LessThan 2) (omega arith) (λ I. near-two I peak most)
+  near Full = λ i. wider (λ g h. omega (arith, h, g .pos)) (full-range d p peak most i)
+
+  -- the zone of a source is that of its position
+  below : (r : Range) → (peak ≤ 1000) ⊎ BelowKnee (sourceOf peak d r) p
+      → (peak ≤ 1000) ⊎ (2 * brightestPosition (coded d r) p + kneeHalves + positionOf (peak * units) ≤ 3 * thousandAt)
   unfolding brightestPosition
-  below (inl h) = inl h
-  below (inr h) = inr (omega (arith, thousand-position))
+  below r (inl h) = inl h
+  below r (inr h) = inr (omega (arith, thousand-position))
+
+  unbent : (r : Range) → (peak ≤ 1000) ⊎ BelowKnee (sourceOf peak d r) p
+      → (i : Component) → Enclosed (ofCodes (coded d r) p) peak i (Unbent r (code (sourceOf peak d r) p i))
+  unfolding code none
+  unbent Narrow c = by-index d p peak most (AtMost 9 16) (omega arith) (λ I. nearer I peak most (below Narrow c))
+  unbent Full c = λ i. wider (λ g h. omega (arith, h)) (full-range d p peak most i)
 
 -- the voted property of each source and pixel, and over all of them
 pub voted : (source : Source) (p : Pixel) → source .peak ≤ 10000 → Voted source p
-unfolding none
 voted source p most =
+    let f = source .format in
     record {
-      near = by-index source p most (LessThan 2) (omega arith) (λ I. near-two I (source .peak) most);
-      nearer = λ c. by-index source p most (AtMost 9 16) (omega arith) (λ I. nearer I (source .peak) most (below source p most c));
+      near = near (f .depth) p (source .peak) most (f .range);
+      nearer = unbent (f .depth) p (source .peak) most (f .range);
       capped = mapped-at-most source p;
       ordered = ordered source p;
       greys = λ c d from l to. greys source c d l;

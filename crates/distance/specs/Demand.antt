@@ -4,9 +4,13 @@ use Prim.Native.Nat.{ℕ, _+_, _*_, _≤_, _<_}
 use Rattle.laws.specs.Fraction.{Fraction}
 use Rattle.laws.specs.Side.{Side}
 use Rattle.quantity.specs.Units.{units, thousand}
+use Rattle.quantity.specs.declared.sample_format.Range.{Range}
+use Rattle.quantity.specs.declared.sample_format.Range.the-variants.{Narrow, Full}
 use Rattle.quantity.specs.declared.Source.{Source}
+use Rattle.quantity.specs.SampleFormat.{leastTaken, mostTaken}
 use Rattle.quantity.specs.Component.{Component, Pixel, brightest}
-use Rattle.position.specs.Position.{codePosition, codeLight, positionOf}
+use Rattle.position.specs.Position.{positionOf}
+use Rattle.position.specs.Code.{codePosition, codeLight}
 use Rattle.pixel.specs.Conversion.{mapped, code}
 use Rattle.exact.specs.ExactValue.{Given, ofCodes, Signal}
 
@@ -28,21 +32,34 @@ pub record Enclosed (G : Given) (peak : ℕ) (i : Component) (Inside : Fraction 
 
 -- the brightest code lies a whole code or more under the knee: 2m + 2,048 ≤ 3t − w. Where the curve cuts m at w, it fails with either m
 abbrev pub BelowKnee : Source → Pixel → Type 0
-BelowKnee source p = 2 * codePosition (brightest p) + 2048 + positionOf (source .peak * units) ≤ 3 * positionOf thousand
+BelowKnee source p = 2 * codePosition (source .format) (brightest p) + 2048 + positionOf (source .peak * units) ≤ 3 * positionOf thousand
+
+-- request 06: how near a code lies where the curve does not bend, or not yet, and how near it lies anywhere
+abbrev pub Unbent : Range → ℕ → Fraction → Type 0
+Unbent Narrow = AtMost 9 16
+Unbent Full = LessThan 2
+
+abbrev pub Anywhere : Range → ℕ → Fraction → Type 0
+Anywhere Narrow = LessThan 2
+Anywhere Full = LessThan 4
 
 -- demand 3 of one source and one pixel
 pub record Voted (source : Source) (p : Pixel) : Type 0 where
-  -- each code is less than two codes away from its exact value
-  pub near : (i : Component) → Enclosed (ofCodes p) (source .peak) i (LessThan 2 (code source p i))
-  -- and at most 9/16 of a code where the curve does not bend, or not yet
-  pub nearer : (source .peak ≤ 1000) ⊎ BelowKnee source p → (i : Component) → Enclosed (ofCodes p) (source .peak) i (AtMost 9 16 (code source p i))
+  -- each code is less than two codes away from its exact value, of full-range codes less than four
+  pub near : (i : Component) → Enclosed (ofCodes (source .format) p) (source .peak) i (Anywhere (source .format .range) (code source p i))
+  -- and at most 9/16 of a code where the curve does not bend, or not yet; of full-range codes less than two
+  pub nearer : (source .peak ≤ 1000) ⊎ BelowKnee source p
+      → (i : Component) → Enclosed (ofCodes (source .format) p) (source .peak) i (Unbent (source .format .range) (code source p i))
   -- no mapped component exceeds 1,000 cd/m2
   pub capped : (i : Component) → mapped source p i ≤ thousand
   -- a component light at least as large as another gives a mapped component and a code at least as large
-  pub ordered : (i j : Component) → codeLight (p i) ≤ codeLight (p j) → (mapped source p i ≤ mapped source p j) × (code source p i ≤ code source p j)
+  pub ordered : (i j : Component) → codeLight (source .format) (p i) ≤ codeLight (source .format) (p j)
+      → (mapped source p i ≤ mapped source p j) × (code source p i ≤ code source p j)
   -- of two greys of one source, the larger PQ code gives HLG codes at least as large
-  pub greys : (c d : ℕ) → 4 ≤ c → c ≤ d → d ≤ 1019 → (i j : Component) → code source (λ k. c) i ≤ code source (λ k. d) j
+  pub greys : (c d : ℕ) → leastTaken (source .format) ≤ c → c ≤ d → d ≤ mostTaken (source .format)
+      → (i j : Component) → code source (λ k. c) i ≤ code source (λ k. d) j
 
--- for every peak from 1 to 10,000 and every pixel of codes from 4 to 1,019
+-- for every peak from 1 to 10,000, every depth and range, and every pixel of codes that are taken
 unfoldable pub Demand : Type 0
-Demand = (source : Source) → 1 ≤ source .peak → source .peak ≤ 10000 → (p : Pixel) → ((i : Component) → (4 ≤ p i) × (p i ≤ 1019)) → Voted source p
+Demand = (source : Source) → 1 ≤ source .peak → source .peak ≤ 10000 → (p : Pixel)
+    → ((i : Component) → (leastTaken (source .format) ≤ p i) × (p i ≤ mostTaken (source .format))) → Voted source p

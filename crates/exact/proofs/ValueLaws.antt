@@ -5,6 +5,7 @@ use native.Mathlib.Omega.{arith}
 use Rattle.laws.specs.Fraction.{Fraction, _≼_}
 use Rattle.laws.specs.Side.{low, high}
 use Rattle.laws.proofs.FractionLaws.{zero-≼}
+use Rattle.quantity.specs.declared.sample_format.SampleFormat.{SampleFormat}
 use Rattle.quantity.specs.Component.{Component, Pixel}
 use Rattle.hlg_steps.specs.Steps.{scene}
 use Rattle.hlg_steps.proofs.SignalLaws as hlg
@@ -23,5 +24,6 @@ ordered S peak i {g} {h} (inr a) (inr b) =
     let grows : E ≼ F = record { cross = omega (arith, scene-lights-apart S _ _ (a .0) (a .1 .1) (b .1 .1) .cross) } in
     hlg.signal-ordered F g h (hlg.signal-of-more E F g grows (a .1 .2)) (b .1 .2)
 
-pub signal-ordered : (peak : ℕ) (p : Pixel) (i : Component) {g h : Fraction} → Signal (ofCodes p) low peak i g → Signal (ofCodes p) high peak i h → g ≼ h
-signal-ordered peak p = ordered (codes-sound p) peak
+pub signal-ordered : (f : SampleFormat) (peak : ℕ) (p : Pixel) (i : Component) {g h : Fraction}
+    → Signal (ofCodes f p) low peak i g → Signal (ofCodes f p) high peak i h → g ≼ h
+signal-ordered f peak p = ordered (codes-sound f p) peak

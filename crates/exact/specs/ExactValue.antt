@@ -9,9 +9,10 @@ use native.Mathlib.Omega.{arith}
 use Rattle.laws.specs.Fraction.{Fraction, over, whole, _·_, _↑_}
 use Rattle.laws.specs.Side.{Side, low, high, other, At, Bounds}
 use Rattle.quantity.specs.Units.{units, thousand}
+use Rattle.quantity.specs.declared.sample_format.SampleFormat.{SampleFormat}
 use Rattle.quantity.specs.Component.{Component, Pixel, brightest, weighted}
 use Rattle.pq.specs.Pq.{ValueAtMost, ValueAtLeast}
-use Rattle.position.specs.Position.{codeRead}
+use Rattle.position.specs.Code.{codeSignal}
 use Rattle.hlg_steps.specs.Signal.{HlgSignal}
 use Rattle.hlg_steps.specs.Steps.{scene}
 
@@ -31,17 +32,14 @@ pub record Given : Type 1 where
   pub X : Side → Fraction → Type 0
   pub level : ℕ
 
--- ten-bit narrow-range codes give PQ signals: (D − 64)/876 of a code as read. X is known itself, on both sides
-abbrev pub signal : ℕ → Fraction
-signal D = over (codeRead D - 64) 876 (zero-lt-suc 875)
-
-abbrev pub ofCodes : Pixel → Given
-ofCodes p =
+-- codes of a depth and range give PQ signals, unrounded (request 06); X is that of the brightest code
+abbrev pub ofCodes : SampleFormat → Pixel → Given
+ofCodes f p =
     record {
-      Own = λ s i l. Light s (signal (p i)) l;
-      Most = λ s l. Light s (signal (brightest p)) l;
-      X = λ s x. x .num * signal (brightest p) .den ≡ signal (brightest p) .num * x .den;
-      level = signal (brightest p) .num;
+      Own = λ s i l. Light s (codeSignal f (p i)) l;
+      Most = λ s l. Light s (codeSignal f (brightest p)) l;
+      X = λ s x. Bounds s x (codeSignal f (brightest p));
+      level = codeSignal f (brightest p) .num;
     }
 
 -- J and H, the PQ signals of 1,000 cd/m2 and of the peak, in q-ths; they serve only when the lower fraction of H is above the upper one of J

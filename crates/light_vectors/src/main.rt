@@ -1,30 +1,38 @@
 // The calls on lights and positions over stored questions on standard input: a byte for the call and an 8-byte number, high byte first. The answer is a
-// line, a number: 0 asks for an entry of the light table, 1 for the light of a code, 2 for that at a position, 3 for the position of a light.
+// line, a number: the byte over 8 leaves 0 for an entry of the light table, 1 for the light of a code, 2 for that at a position, 3 for the position of a
+// light, 4 for that of a code; its bits 3 and 4 are the depth and range of a code.
 use big_endian::byte_at;
 use big_endian::number_at;
 use libc::STDIN_FILENO;
 use libc::STDOUT_FILENO;
+use position::code::code_position;
+use position::code::light_of_code;
 use position::light_at;
-use position::light_of_code;
 use position::position_of;
 use pq::light_entry;
 use quantity::DisplayLight;
 use quantity::Position;
+use quantity::sample_format::format_of;
 
-fn answer_of(call: u64, number: u64) -> u64 {
+fn answer_of(byte: u64, number: u64) -> u64 {
+    let call = byte % 8;
     if call == 0 {
         let entry = light_entry(number);
         return entry.0;
     }
     if call == 1 {
-        let light = light_of_code(number);
+        let light = light_of_code(format_of(byte), number);
         return light.0;
     }
     if call == 2 {
         let light = light_at(Position(number));
         return light.0;
     }
-    let position = position_of(DisplayLight(number));
+    if call == 3 {
+        let position = position_of(DisplayLight(number));
+        return position.0;
+    }
+    let position = code_position(format_of(byte), number);
     position.0
 }
 

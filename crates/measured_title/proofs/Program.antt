@@ -9,10 +9,11 @@ use native.Mathlib.Omega.{arith}
 use lib.Dec.{eqb}
 use lib.ListN.{length, take, drop}
 use borrow.Author.Tests.{ne-eqb}
+use Rattle.quantity.specs.declared.sample_format.SampleFormat.{SampleFormat}
 use Rattle.content_light.specs.declared.RunRecord.{RunRecord}
 use Rattle.content_light.specs.declared.PeakAnswer.{PeakAnswer}
 use Rattle.content_light.specs.declared.PeakAnswer.the-variants as result
-use Rattle.content_light.specs.Peak.{Test, accepted, refused, rowTest, acceptedRows, afterRows, peakOf, measured}
+use Rattle.content_light.specs.Peak.{rowIn, Test, accepted, refused, rowTest, acceptedRows, afterRows, peakOf, measured}
 use Rattle.content_light.specs.Run.{freshRecord, withRow, held, peakAnswer}
 use Rattle.content_light.proofs.RangeLaws.{InRange, fresh-in-range, read-same, taken, in-range-row}
 use Rattle.content_light.proofs.RunLaws.{answered, held-row, rows-of-row}
@@ -27,7 +28,7 @@ use Rattle.title.proofs.ReadingLaws.{readOpening, Opened, opening-read}
 use Rattle.measured_title.specs.declared.next_row.NextRow.{NextRow}
 use Rattle.measured_title.specs.declared.next_row.NextRow.the-variants.{Measured, Refused, End}
 use Rattle.measured_title.specs.NextRow.{nextRow, peakLine, peakLineWithin}
-use Rattle.measured_title.specs.Title.{firstRefusal, lineAfter, rowsLine, titleLineAfter, titleLine}
+use Rattle.measured_title.specs.Title.{allIn, firstRefusal, lineAfter, rowsLine, titleLineAfter, titleLine}
 use Rattle.measured_title.proofs.NextRowLaws.{next-by}
 
 -- what follows a row: the next one with the longer record, the line of a refusal, or the result's
@@ -37,16 +38,16 @@ following (Refused number) next result = refusalLineWithin number 29
 following End next result = result
 
 -- `print_line`, of so many turns, with the buffers of `print_peak` and `print_refusal`
-unfoldable pub printLine : ℕ → RunRecord → ℕ → ℕ → List ℕ → List ℕ
-printLine zero r width left rest = peakLineWithin (peakAnswer r) 63
-printLine (suc turns) r width left rest =
+unfoldable pub printLine : ℕ → RunRecord → SampleFormat → ℕ → ℕ → List ℕ → List ℕ
+printLine zero r format width left rest = peakLineWithin (peakAnswer r) 63
+printLine (suc turns) r format width left rest =
     let result = peakLineWithin (peakAnswer r) 63 in
     cond (eqb left 0) result
-    (following (nextRow r width (take (6 * width) rest)) (λ longer. printLine turns longer width (left - 1) (drop (6 * width) rest)) result)
+    (following (nextRow r format width (take (6 * width) rest)) (λ longer. printLine turns longer format width (left - 1) (drop (6 * width) rest)) result)
 
 -- `measure_title`
 abbrev pub printTitle : Opening → ℕ → List ℕ → List ℕ
-printTitle (opening.Rows source width) limit rest = printLine limit freshRecord width limit rest
+printTitle (opening.Rows source width) limit rest = printLine limit freshRecord (source .format) width limit rest
 printTitle (opening.Refused number) limit rest = refusalLineWithin number 29
 
 unfoldable pub programLine : ℕ → List ℕ → List ℕ
@@ -61,42 +62,43 @@ room-for-peak (result.Peak peak row place) = refl
 room-for-peak (result.Refused number) = refl
 
 -- the line of the rows that are left, after those that a record holds
-abbrev lineFrom : RunRecord → ℕ → List (List ℕ) → List ℕ
-lineFrom r width rows = lineAfter (firstRefusal width (r .rows) rows) (peakOf (afterRows (held r) (r .rows) (acceptedRows (r .rows) rows)))
+abbrev lineFrom : RunRecord → SampleFormat → ℕ → List (List ℕ) → List ℕ
+lineFrom r format width rows =
+    lineAfter (firstRefusal format width (r .rows) rows) (peakOf (afterRows (held r) (r .rows) (acceptedRows (r .rows) (allIn format rows))))
 
-result-line : (r : RunRecord) (width : ℕ) → InRange r → peakLineWithin (peakAnswer r) 63 ≡ lineFrom r width []
-unfolding peakAnswer firstRefusal acceptedRows afterRows
-result-line r width x = room-for-peak (peakAnswer r) ∙ ap (λ (s : RunRecord). peakLine (peakOf (held s))) (read-same r x)
+result-line : (r : RunRecord) (format : SampleFormat) (width : ℕ) → InRange r → peakLineWithin (peakAnswer r) 63 ≡ lineFrom r format width []
+unfolding peakAnswer firstRefusal allIn acceptedRows afterRows
+result-line r format width x = room-for-peak (peakAnswer r) ∙ ap (λ (s : RunRecord). peakLine (peakOf (held s))) (read-same r x)
 
 -- One row: what is printed from it on is the line from it on, where that is so of the rows after it with any longer record.
-module _ (r : RunRecord) (width : ℕ) (row : List ℕ) (later : List (List ℕ)) (next : RunRecord → List ℕ) (x : InRange r)
-    (again : (s : RunRecord) → InRange s → next s ≡ lineFrom s width later) where
+module _ (r : RunRecord) (format : SampleFormat) (width : ℕ) (row : List ℕ) (later : List (List ℕ)) (next : RunRecord → List ℕ) (x : InRange r)
+    (again : (s : RunRecord) → InRange s → next s ≡ lineFrom s format width later) where
   abbrev printed : NextRow → Type 0
-  printed n = following n next (peakLineWithin (peakAnswer r) 63) ≡ lineFrom r width (row ∷ later)
+  printed n = following n next (peakLineWithin (peakAnswer r) 63) ≡ lineFrom r format width (row ∷ later)
 
-  row-cut : rowBytes width row ≡ came.Refused 11 → printed (nextRow r width row)
+  row-cut : rowBytes width row ≡ came.Refused 11 → printed (nextRow r format width row)
   unfolding firstRefusal refusalLineWithin
-  row-cut e = rw (next-by r width row e, e)
+  row-cut e = rw (next-by r format width row e, e)
 
-  row-tested : rowBytes width row ≡ came.Whole → (t : Test) → rowTest (r .rows) row ≡ t → printed (nextRow r width row)
-  unfolding firstRefusal acceptedRows afterRows refusalLineWithin
+  row-tested : rowBytes width row ≡ came.Whole → (t : Test) → rowTest (r .rows) (rowIn format row) ≡ t → printed (nextRow r format width row)
+  unfolding firstRefusal allIn acceptedRows afterRows refusalLineWithin
   row-tested e accepted p =
-      let s = withRow r row in
-      let y = again s (in-range-row r row x (taken (r .rows) row p)) in
-      rw (next-by r width row e, answered r row x, e, p) (y ∙ rw (held-row r row, rows-of-row r row))
-  row-tested e (refused number place) p = rw (next-by r width row e, answered r row x, e, p)
+      let s = withRow r (rowIn format row) in
+      let y = again s (in-range-row r (rowIn format row) x (taken (r .rows) (rowIn format row) p)) in
+      rw (next-by r format width row e, answered r (rowIn format row) x, e, p) (y ∙ rw (held-row r (rowIn format row), rows-of-row r (rowIn format row)))
+  row-tested e (refused number place) p = rw (next-by r format width row e, answered r (rowIn format row) x, e, p)
 
 -- Row by row the line of all rows is printed.
-pub line-printed : (turns : ℕ) (r : RunRecord) (width left : ℕ) (rest : List ℕ) → left ≤ turns → InRange r
-    → printLine turns r width left rest ≡ lineFrom r width (titleRows width left rest)
+pub line-printed : (turns : ℕ) (r : RunRecord) (format : SampleFormat) (width left : ℕ) (rest : List ℕ) → left ≤ turns → InRange r
+    → printLine turns r format width left rest ≡ lineFrom r format width (titleRows width left rest)
 unfolding printLine titleRows
-line-printed zero r width zero rest h x = result-line r width x
-line-printed (suc turns) r width zero rest h x = result-line r width x
-line-printed zero r width (suc left) rest h x = absurd (omega arith)
-line-printed (suc turns) r width (suc left) rest h x =
+line-printed zero r format width zero rest h x = result-line r format width x
+line-printed (suc turns) r format width zero rest h x = result-line r format width x
+line-printed zero r format width (suc left) rest h x = absurd (omega arith)
+line-printed (suc turns) r format width (suc left) rest h x =
     let one : suc left - 1 ≡ left = omega arith in
     rw (ne-eqb (suc left) 0 (omega arith), one)
-    (by-length (decLt 0 (length row)) (decLt (length row) (6 * width)) (λ s y. line-printed turns s width left later (omega arith) y))
+    (by-length (decLt 0 (length row)) (decLt (length row) (6 * width)) (λ s y. line-printed turns s format width left later (omega arith) y))
   where
     row : List ℕ
     row = take (6 * width) rest
@@ -105,18 +107,19 @@ line-printed (suc turns) r width (suc left) rest h x =
     later = drop (6 * width) rest
 
     by-length : Dec (0 < length row) → Dec (length row < 6 * width)
-        → ((s : RunRecord) → InRange s → printLine turns s width left later ≡ lineFrom s width (titleRows width left later))
-        → following (nextRow r width row) (λ longer. printLine turns longer width left later) (peakLineWithin (peakAnswer r) 63)
-        ≡ lineFrom r width (titleRows width (suc left) rest)
+        → ((s : RunRecord) → InRange s → printLine turns s format width left later ≡ lineFrom s format width (titleRows width left later))
+        → following (nextRow r format width row) (λ longer. printLine turns longer format width left later) (peakLineWithin (peakAnswer r) 63)
+        ≡ lineFrom r format width (titleRows width (suc left) rest)
     by-length (no s) d again =
         let none : length row ≡ 0 = omega arith in
-        rw (next-by r width row (at-end width row none), no-row width left rest none) (result-line r width x)
+        rw (next-by r format width row (at-end width row none), no-row width left rest none) (result-line r format width x)
     by-length (yes s) (yes l) again =
         rw (one-row width left rest (omega arith))
-        (row-cut r width row (titleRows width left later) _ x again (cut-short width row (omega arith) l))
+        (row-cut r format width row (titleRows width left later) _ x again (cut-short width row (omega arith) l))
     by-length (yes s) (no l) again =
         rw (one-row width left rest (omega arith))
-        (row-tested r width row (titleRows width left later) _ x again (whole width row (omega arith) (omega arith)) (rowTest (r .rows) row) refl)
+        (row-tested r format width row (titleRows width left later) _ x again (whole width row (omega arith) (omega arith))
+        (rowTest (r .rows) (rowIn format row)) refl)
 
 -- The program prints the title's line, whatever the title's bytes and the limit.
 pub program-line : (limit : ℕ) (title : List ℕ) → programLine limit title ≡ titleLine limit title
@@ -131,6 +134,6 @@ program-line limit title = rw (read .answer) (go (openingAnswer title) refl)
 
     go : (answer : Opening) → openingAnswer title ≡ answer → printTitle answer limit rest ≡ titleLineAfter answer limit (rowsOf title)
     go (opening.Rows source width) e =
-        line-printed limit freshRecord width limit rest (omega arith) fresh-in-range
-        ∙ ap (λ (bytes : List ℕ). rowsLine width (titleRows width limit bytes)) (sym (read .rows source width e))
+        line-printed limit freshRecord (source .format) width limit rest (omega arith) fresh-in-range
+        ∙ ap (λ (bytes : List ℕ). rowsLine (source .format) width (titleRows width limit bytes)) (sym (read .rows source width e))
     go (opening.Refused number) e = refl

@@ -2,12 +2,14 @@
 -- A row is the bytes that came for it, a width its pixels; `room` is the length of the buffer for the line.
 use Prim.Native.Nat.{ℕ}
 use mathlib.Core.List.{List}
+use Rattle.quantity.specs.declared.sample_format.SampleFormat.{SampleFormat}
 use Rattle.quantity.specs.Component.{pixel}
 use Rattle.content_light.specs.declared.RunRecord.{RunRecord}
 use Rattle.content_light.specs.declared.RecordAnswer.{RecordAnswer}
 use Rattle.content_light.specs.declared.RecordAnswer.the-variants as run
 use Rattle.content_light.specs.declared.PeakAnswer.{PeakAnswer}
 use Rattle.content_light.specs.declared.PeakAnswer.the-variants as result
+use Rattle.content_light.specs.Peak.{rowIn}
 use Rattle.content_light.specs.Run.{recordAnswer}
 use Rattle.listing.specs.Text.{line, lineWithin, refusalLine, refusalLineWithin}
 use Rattle.title.specs.declared.row_bytes.RowBytes.{RowBytes}
@@ -27,8 +29,8 @@ afterBytes (came.Refused number) answer = Refused number
 afterBytes came.End answer = End
 
 -- the title's end, else refusal 11, else as the run decides
-unfoldable pub nextRow : RunRecord → ℕ → List ℕ → NextRow
-nextRow r width row = afterBytes (rowBytes width row) (recordAnswer r row)
+unfoldable pub nextRow : RunRecord → SampleFormat → ℕ → List ℕ → NextRow
+nextRow r format width row = afterBytes (rowBytes width row) (recordAnswer r (rowIn format row))
 
 -- the line of a result: peak, row and pixel with one space between, or the refusal
 abbrev pub peakLine : PeakAnswer → List ℕ

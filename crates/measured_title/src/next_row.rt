@@ -11,6 +11,7 @@ use content_light::measure_row;
 use content_light::measured_peak;
 use listing::list_line;
 use listing::list_refusal;
+use quantity::sample_format::SampleFormat;
 use title::row_bytes::RowBytes;
 use title::row_bytes::test_row_bytes;
 
@@ -24,13 +25,13 @@ pub enum NextRow {
 }
 
 // What the bytes that came for a row make of a run's record. Refuses 11 before what the run refuses.
-pub fn measure_next_row(run: RunRecord, width: usize, row: &[u8]) -> NextRow
-    ensures { λ r. ⌜ r ≡ nextRow run width (now (row .entry)) ⌝ }
+pub fn measure_next_row(run: RunRecord, format: SampleFormat, width: usize, row: &[u8]) -> NextRow
+    ensures { λ r. ⌜ r ≡ nextRow run format width (now (row .entry)) ⌝ }
 {
     let came = test_row_bytes(width, row);
     match came {
         RowBytes::Whole => {
-            let answer = measure_row(run, row);
+            let answer = measure_row(run, format, row);
             match answer {
                 RecordAnswer::Measured(longer) => NextRow::Measured(longer),
                 RecordAnswer::Refused(number, _) => NextRow::Refused(number),

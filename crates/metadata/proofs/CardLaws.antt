@@ -1,51 +1,55 @@
 -- Laws of a card, from the definitions: which bytes have an unknown bit, what each outcome says of a card, and what bytes that come after it change.
 use Prim.Native.Nat.{ℕ, _+_, _*_, _-_, _<_, _≤_}
 use mathlib.Core.Bool.{Bool, true, false, cond, _||_, _&&_, true≢false}
-use mathlib.Core.List.{List, [], _++_}
+use mathlib.Core.List.{List, [], _∷_, _++_}
 use mathlib.Core.Path.{_≡_, refl, sym, ap, _∙_}
 use native.Mathlib.Omega.{arith}
-use lib.ListN.{length, getD, drop, length-append, drop-of-length-le, List·getD-append}
+use lib.ListN.{length, getD, drop, length-append, List·getD-append}
 use lib.Seq.{drop-append-le}
 use lib.Dec.{eqb, ltb}
-use borrow.Author.Tests.{ne-eqb, eq-eqb, lt-ltb, le-ltb, eqb-true, eqb-false, ltb-true, ltb-false, not-true}
+use borrow.Author.Tests.{ne-eqb, eq-eqb, le-ltb, eqb-true, eqb-false, ltb-true, ltb-false, not-true}
 use Rattle.quantity.specs.declared.Source.{Source}
+use Rattle.quantity.specs.SampleFormat.{formatOf}
 use Rattle.big_endian.specs.BigEndian.{numberAt}
 use Rattle.metadata.specs.Card.{bit, stands, maxCLL, masteringPeak, cardBytes, unknownBit, cutShort, known, outOfRange, fieldOutOfRange}
-use Rattle.metadata.specs.Card.{peak, declared, cardAnswer, following, cardWants}
-use Rattle.metadata.specs.declared.SourceAnswer.{SourceAnswer}
+use Rattle.metadata.specs.Card.{peak, format, declared, cardAnswer, following, cardWants}
 use Rattle.metadata.specs.declared.SourceAnswer.the-variants.{Declared, Refused}
 
-one-of : (a b c d e : Bool) → (a ≡ false → b ≡ false → c ≡ false → d ≡ false → e ≡ false → ⊥) → (a || b || c || d || e) ≡ true
-one-of true b c d e h = refl
-one-of false true c d e h = refl
-one-of false false true d e h = refl
-one-of false false false true e h = refl
-one-of false false false false true h = refl
-one-of false false false false false h = absurd (h refl refl refl refl refl)
+one-of : (a b c : Bool) → (a ≡ false → b ≡ false → c ≡ false → ⊥) → (a || b || c) ≡ true
+one-of true b c h = refl
+one-of false true c h = refl
+one-of false false true h = refl
+one-of false false false h = absurd (h refl refl refl)
 
--- In a byte above 7 one of bits 3 to 7 stands: if none does, each in turn halves the byte's bound.
-pub unknown-bit : (card : List ℕ) → getD card 0 0 < 256 → ltb 7 (getD card 0 0) ≡ unknownBit card
+-- In a byte above 31 one of bits 5 to 7 stands: if none does, each in turn halves the byte's bound.
+above-thirty-one : (card : List ℕ) → getD card 0 0 < 256 → 31 < getD card 0 0 → unknownBit card ≡ true
 unfolding unknownBit
-unknown-bit card byte = go (ltb 7 (getD card 0 0)) refl
+above-thirty-one card byte above =
+    one-of (stands 5 card) (stands 6 card) (stands 7 card)
+    (λ p q r.
+    let no-7 : getD card 0 0 < 128 = omega (arith, eqb-false (bit 7 card) 1 r) in
+    let no-6 : getD card 0 0 < 64 = omega (arith, eqb-false (bit 6 card) 1 q) in
+    omega (arith, eqb-false (bit 5 card) 1 p))
+
+to-thirty-one : (card : List ℕ) → getD card 0 0 ≤ 31 → unknownBit card ≡ false
+unfolding unknownBit
+to-thirty-one card within =
+    let five = ne-eqb (bit 5 card) 1 (omega arith) in
+    let six = ne-eqb (bit 6 card) 1 (omega arith) in
+    simp (five, six, ne-eqb (bit 7 card) 1 (omega arith))
+
+pub unknown-bit : (card : List ℕ) → getD card 0 0 < 256 → ltb 31 (getD card 0 0) ≡ unknownBit card
+unknown-bit card byte = go (ltb 31 (getD card 0 0)) refl
   where
-    go : (b : Bool) → ltb 7 (getD card 0 0) ≡ b → b ≡ (stands 3 card || stands 4 card || stands 5 card || stands 6 card || stands 7 card)
-    go true e =
-        let above = ltb-true 7 (getD card 0 0) e in
-        sym
-        (one-of (stands 3 card) (stands 4 card) (stands 5 card) (stands 6 card) (stands 7 card)
-        (λ p q r s t.
-        let no-7 : getD card 0 0 < 128 = omega (arith, eqb-false (bit 7 card) 1 t) in
-        let no-6 : getD card 0 0 < 64 = omega (arith, eqb-false (bit 6 card) 1 s) in
-        let no-5 : getD card 0 0 < 32 = omega (arith, eqb-false (bit 5 card) 1 r) in
-        let no-4 : getD card 0 0 < 16 = omega (arith, eqb-false (bit 4 card) 1 q) in
-        omega (arith, eqb-false (bit 3 card) 1 p)))
-    go false e =
-        let within = ltb-false 7 (getD card 0 0) e in
-        let three = ne-eqb (bit 3 card) 1 (omega arith) in
-        let four = ne-eqb (bit 4 card) 1 (omega arith) in
-        let five = ne-eqb (bit 5 card) 1 (omega arith) in
-        let six = ne-eqb (bit 6 card) 1 (omega arith) in
-        simp (three, four, five, six, ne-eqb (bit 7 card) 1 (omega arith))
+    go : (b : Bool) → ltb 31 (getD card 0 0) ≡ b → b ≡ unknownBit card
+    go true e = sym (above-thirty-one card byte (ltb-true 31 (getD card 0 0) e))
+    go false e = sym (to-thirty-one card (ltb-false 31 (getD card 0 0) e))
+
+-- the largest bit map that is taken, and the three bits that are not, computed
+pub bits-refused :
+    (unknownBit (31 ∷ []) ≡ false) × (unknownBit (32 ∷ []) ≡ true) × (unknownBit (64 ∷ []) ≡ true) × (unknownBit (128 ∷ []) ≡ true)
+unfolding unknownBit
+bits-refused = (refl, refl, refl, refl)
 
 -- What each outcome of the tests says of a card: its answer, how many bytes it wants, and why.
 pub data Outcome (card : List ℕ) : Type 0 where
@@ -166,6 +170,10 @@ module _ (card more : List ℕ) where
   unfolding unknownBit
   same-unknown h = rw (same-map h)
 
+  same-format : 0 < length card → format (card ++ more) ≡ format card
+  unfolding format
+  same-format h = ap formatOf (same-map h)
+
   -- A number whose bytes are there stays.
   pub same-number : (i : ℕ) → i + 2 ≤ length card → numberAt (card ++ more) i ≡ numberAt card i
   unfolding numberAt
@@ -224,7 +232,7 @@ module _ (card more : List ℕ) where
           rw e (simp (some first, same-unknown first ∙ u, uncut l, same-fields l ∙ f))
       go (taken u l f e w) =
           let first = some-byte l in
-          rw e (simp (some first, same-unknown first ∙ u, uncut l, same-fields l ∙ f, same-peak l))
+          rw e (simp (some first, same-unknown first ∙ u, uncut l, same-fields l ∙ f, same-peak l, same-format first))
 
   -- What comes after an accepted card's bytes follows the card.
   pub follows : {source : Source} → cardAnswer card ≡ Declared source → following (card ++ more) ≡ following card ++ more

@@ -9,7 +9,7 @@ use lib.ListN.{length, drop, drop-of-length-le}
 use lib.Dec.{ltb, eqb}
 use borrow.Author.Tests.{ne-eqb, lt-ltb, le-ltb, ltb-true, ltb-false}
 use Rattle.big_endian.specs.BigEndian.{numberAt}
-use Rattle.metadata.specs.Card.{bit, field, cardBytes, unknownBit, known, outOfRange, fieldOutOfRange, peak}
+use Rattle.metadata.specs.Card.{bit, field, cardBytes, unknownBit, known, outOfRange, fieldOutOfRange, peak, format}
 use Rattle.metadata.specs.Card.{cardAnswer, endAfter, following}
 use Rattle.metadata.specs.declared.SourceAnswer.{SourceAnswer}
 use Rattle.metadata.specs.declared.SourceAnswer.the-variants.{Declared, Refused}
@@ -41,12 +41,17 @@ module _ (c p : ℕ) (h : p < 4) (xs : List ℕ) where
   unknown-by : unknownBit ((4 * c + p) ∷ xs) ≡ unknownBit ((4 * c) ∷ [])
   unfolding unknownBit
   unknown-by =
-      let three : (4 * c + p) / 8 ≡ (4 * c) / 8 = omega arith in
-      let four : (4 * c + p) / 16 ≡ (4 * c) / 16 = omega arith in
       let five : (4 * c + p) / 32 ≡ (4 * c) / 32 = omega arith in
       let six : (4 * c + p) / 64 ≡ (4 * c) / 64 = omega arith in
       let seven : (4 * c + p) / 128 ≡ (4 * c) / 128 = omega arith in
-      rw (three, four, five, six, seven)
+      rw (five, six, seven)
+
+  format-by : format ((4 * c + p) ∷ xs) ≡ format ((4 * c) ∷ [])
+  unfolding format
+  format-by =
+      let three : (4 * c + p) / 8 ≡ (4 * c) / 8 = omega arith in
+      let four : (4 * c + p) / 16 ≡ (4 * c) / 16 = omega arith in
+      rw (three, four)
 
   bytes-by : cardBytes ((4 * c + p) ∷ xs) ≡ bytesBy p
   unfolding cardBytes
@@ -67,7 +72,8 @@ same-order m n k l e f = go (ltb k l) refl
     go true g = let i = ltb-true k l g in lt-ltb m n (omega arith)
     go false g = let i = ltb-false k l g in le-ltb m n (omega arith)
 
--- Two cards of which one has a field more, where that changes neither what is out of range nor the peak nor what comes after.
+-- Two cards of which one has a field more, where that changes neither what is out of range nor the peak nor what comes after; depth and range are
+-- in the bits above.
 same-answers : (c p q : ℕ) (xs ys : List ℕ) → p < 4 → q < 4 → length xs ≡ length ys + 2 → bytesBy p ≡ bytesBy q + 2
     → outsideBy p ((4 * c + p) ∷ xs) ≡ outsideBy q ((4 * c + q) ∷ ys)
     → ((other : ℕ) → peakBy other p ((4 * c + p) ∷ xs) ≡ peakBy other q ((4 * c + q) ∷ ys))
@@ -87,7 +93,8 @@ same-answers c p q xs ys g h longer bytes outside peaks rest = (same, rw same (g
         let cut = same-order (length x) (cardBytes x) (length y) (cardBytes y) (omega arith) (omega (arith, bytes-by c p g xs, bytes-by c q h ys)) in
         let fields = outside-by c p g xs ∙ outside ∙ sym (outside-by c q h ys) in
         let chosen = peak-by c p g xs ∙ peaks _ ∙ sym (peak-by c q h ys) in
-        simp (ne-eqb (length x) 0 (omega arith), ne-eqb (length y) 0 (omega arith), unknown, cut, fields, chosen)
+        let coded = format-by c p g xs ∙ sym (format-by c q h ys) in
+        simp (ne-eqb (length x) 0 (omega arith), ne-eqb (length y) 0 (omega arith), unknown, cut, fields, chosen, coded)
 
     go : (answer : SourceAnswer) → drop (endAfter answer x) x ≡ drop (endAfter answer y) y
     go (Declared source) = rw (bytes-by c p g xs, bytes-by c q h ys) rest

@@ -1,11 +1,14 @@
--- The card that precedes a picture: scope (document 01), "Cards, rows, program", and refusals 1 to 4 of "What stops a call"; request 02, fields of 0.
+-- The card that precedes a picture: scope (document 01), "Cards, rows, program", and refusals 1 to 4 of "What stops a call"; request 02, fields of 0;
+-- request 06, depth and range.
 -- A list of bytes opens with the card, and other bytes may follow. Fields and peaks are in whole cd/m2, lengths in bytes.
 use Prim.Native.Nat.{ℕ, _+_, _*_, _-_, _/_, _%_, _^_}
 use mathlib.Core.Bool.{Bool, cond, not, _||_, _&&_}
 use mathlib.Core.List.{List}
 use lib.ListN.{length, getD, drop}
 use lib.Dec.{ltb, eqb}
+use Rattle.quantity.specs.declared.sample_format.SampleFormat.{SampleFormat}
 use Rattle.quantity.specs.declared.Source.{Source}
+use Rattle.quantity.specs.SampleFormat.{formatOf}
 use Rattle.big_endian.specs.BigEndian.{numberAt}
 use Rattle.metadata.specs.declared.SourceAnswer.{SourceAnswer}
 use Rattle.metadata.specs.declared.SourceAnswer.the-variants.{Declared, Refused}
@@ -34,9 +37,9 @@ masteringPeak card = field (bit 0 card) card
 unfoldable pub cardBytes : List ℕ → ℕ
 cardBytes card = 1 + 2 * (bit 0 card + bit 1 card)
 
--- scope, refusal 2: a bit is set that has no meaning
+-- scope, refusal 2, and request 06: a bit is set that has no meaning
 unfoldable pub unknownBit : List ℕ → Bool
-unknownBit card = stands 3 card || stands 4 card || stands 5 card || stands 6 card || stands 7 card
+unknownBit card = stands 5 card || stands 6 card || stands 7 card
 
 -- scope, refusal 3: bytes of the last field are missing
 abbrev pub cutShort : List ℕ → Bool
@@ -63,9 +66,13 @@ peak card =
     (cond (stands 2 card) 10000
     4000))
 
+-- request 06: bits 3 and 4 of the bit map mean twelve bits and full range, and neither has a field
+unfoldable pub format : List ℕ → SampleFormat
+format card = formatOf (getD card 0 0)
+
 -- what a card that nothing refuses declares of its picture
 abbrev pub declared : List ℕ → Source
-declared card = record { peak = peak card }
+declared card = record { peak = peak card; format = format card }
 
 -- scope, What stops a call: the first of refusals 1 to 4 that the card meets, else what it declares
 unfoldable pub cardAnswer : List ℕ → SourceAnswer

@@ -6,13 +6,15 @@ ghost use Prim.Native.Nat.{_/_, _%_, _<_, _≤_};
 ghost use lib.Dec.{eqb};
 ghost use lib.ListN.{length, getD};
 ghost use Rattle.metadata.specs.Card.{cardAnswer, endAfter, following, cardWants, cardBytes, unknownBit};
-ghost use Rattle.metadata.specs.Card.{fieldOutOfRange, outOfRange, masteringPeak, known, peak};
+ghost use Rattle.metadata.specs.Card.{fieldOutOfRange, outOfRange, masteringPeak, known, peak, format};
 use big_endian::byte_at;
 use big_endian::number_at;
 use quantity::Source;
+use quantity::sample_format::SampleFormat;
+use quantity::sample_format::format_of;
 
 pub enum SourceAnswer {
-    // what the card declares of its picture: a peak from 1 to 10,000 cd/m2
+    // what the card declares of its picture: a peak from 1 to 10,000 cd/m2, depth and range
     Declared(Source),
     // the number of the refusal, from 1 to 4
     Refused(u64),
@@ -36,6 +38,7 @@ pub fn source_of_metadata(card: &[u8]) -> SourceAnswer
     }
     SourceAnswer::Declared(Source {
         peak: peak_of_fields(card),
+        format: format_of_bits(card),
     })
 }
 
@@ -90,10 +93,17 @@ fn bit_of(card: &[u8], weight: u64) -> u64
     byte_at(card, 0) / weight % 2
 }
 
+// Depth and range, by bits 3 and 4.
+fn format_of_bits(card: &[u8]) -> SampleFormat
+    ensures { λ r. ⌜ r ≡ format (now (card .entry)) ⌝ }
+{
+    format_of(byte_at(card, 0))
+}
+
 fn has_unknown_bit(card: &[u8]) -> bool
     ensures { λ r. ⌜ r ≡ unknownBit (now (card .entry)) ⌝ }
 {
-    7 < byte_at(card, 0)
+    31 < byte_at(card, 0)
 }
 
 fn has_field_out_of_range(card: &[u8]) -> bool

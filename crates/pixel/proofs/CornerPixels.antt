@@ -6,11 +6,16 @@ use native.Mathlib.Omega.{arith}
 use lib.Dec.{lit<}
 use Rattle.laws.specs.Largest.{largest}
 use Rattle.quantity.specs.Units.{units, thousand, lastPosition}
+use Rattle.quantity.specs.declared.sample_format.Depth.the-variants.{Ten}
+use Rattle.quantity.specs.declared.sample_format.Range.the-variants.{Narrow}
+use Rattle.quantity.specs.declared.sample_format.SampleFormat.{SampleFormat}
 use Rattle.quantity.specs.declared.Source.{Source}
+use Rattle.quantity.specs.SampleFormat.{coded}
 use Rattle.quantity.specs.Source.{gradedAt}
 use Rattle.quantity.specs.Component.{Component, red, green, blue, Pixel, pixel, brightest}
 use Rattle.pq.specs.LightTable.{lightTable, lightEntry}
-use Rattle.position.specs.Position.{codeLight, lightAt, positionOf}
+use Rattle.position.specs.Position.{lightAt, positionOf}
+use Rattle.position.specs.Code.{codeLight}
 use Rattle.position.proofs.PositionLaws.{position-is}
 use Rattle.position.proofs.PeakLaws.{thousand-position}
 use Rattle.eetf.specs.Curve.{bentLight, mappedLight}
@@ -22,9 +27,13 @@ use Rattle.pixel.specs.Conversion.{bentOf, mappedOf, codeOf, lights, bri
 use Rattle.pixel.specs.CornerPixels.{Converts, CornerPixels}
 use Rattle.pixel.proofs.PixelLaws.{mapped-by, bent-of-light, brightest-lit, code-dark}
 
+-- ten bits in narrow range
+abbrev narrow : SampleFormat
+narrow = coded Ten Narrow
+
 -- all that a code is computed by
 computed : Source → Pixel → Component → ℕ
-unfolding largest units thousand lightTable lightEntry codeLight bentLight mappedLight stepTable step reaches hlgCode brightestPosition code
+unfolding largest units thousand lightTable lightEntry lightAt codeLight bentLight mappedLight stepTable step reaches hlgCode brightestPosition code
 computed = code
 
 -- ---- a peak of 1,000 cd/m2: document 002's colours, and the first code
@@ -55,11 +64,11 @@ unfolding computed
 hue-kept = record { to-red = refl; to-green = refl; to-blue = refl }
 
 -- ---- black, under any peak
-no-light : (c : ℕ) → codeLight c ≡ 0 → brightestLight (pixel c c c) ≡ 0
+no-light : (c : ℕ) → codeLight narrow c ≡ 0 → brightestLight narrow (pixel c c c) ≡ 0
 unfolding brightestLight
 no-light c h = omega arith
 
-all-dark : (peak c : ℕ) → codeLight c ≡ 0 → Converts peak (pixel c c c) 64 64 64
+all-dark : (peak c : ℕ) → codeLight narrow c ≡ 0 → Converts peak (pixel c c c) 64 64 64
 all-dark peak c h =
     let d = code-dark (gradedAt peak) (pixel c c c) (no-light c h) in
     record { to-red = d red; to-green = d green; to-blue = d blue }
@@ -91,18 +100,19 @@ at-940 : hlgCode (luminance endLight endLight endLight) endLight ≡ 940
 unfolding lightAt lightEntry lightTable hlgCode reaches largest step stepTable thousand units
 at-940 = refl
 
-shown : (peak c : ℕ) → 1000 < peak → codeLight c ≡ 167772160000 → brightestPosition (pixel c c c) ≡ 897024 → Converts peak (pixel c c c) 940 940 940
+shown : (peak c : ℕ) → 1000 < peak → codeLight narrow c ≡ 167772160000 → brightestPosition narrow (pixel c c c) ≡ 897024
+    → Converts peak (pixel c c c) 940 940 940
 unfolding code
 shown peak c above h e = record { to-red = to red; to-green = to green; to-blue = to blue }
   where
     x : Pixel
-    x = lights (pixel c c c)
+    x = lights narrow (pixel c c c)
 
     m : ℕ
-    m = brightestPosition (pixel c c c)
+    m = brightestPosition narrow (pixel c c c)
 
     bends : bentOf peak x m ≡ endLight
-    bends = bent-of-light peak x m (brightest-lit (pixel c c c)) ∙ ap (λ q. bentLight peak (lightAt q) q) e ∙ at-end peak above
+    bends = bent-of-light peak x m (brightest-lit narrow (pixel c c c)) ∙ ap (λ q. bentLight peak (lightAt q) q) e ∙ at-end peak above
 
     to : (i : Component) → codeOf peak x m i ≡ 940
     to i = bright peak x m 167772160000 endLight (elim [ red ↦ h | green ↦ h | blue ↦ h ]) (lit< tt) bends i ∙ at-940

@@ -5,10 +5,13 @@ use native.Mathlib.Nat.{mul-le-mul-right, mul-div-cancel-left}
 use native.Mathlib.Decide.{decLe}
 use native.Mathlib.Omega.{arith}
 use Rattle.laws.proofs.DivisionLaws.{floor-grows}
+use Rattle.quantity.specs.declared.sample_format.SampleFormat.{SampleFormat}
 use Rattle.quantity.specs.declared.Source.{Source}
 use Rattle.quantity.specs.Component.{Component, Pixel, brightest}
-use Rattle.position.specs.Position.{codePosition, codeLight, lightAt}
-use Rattle.position.proofs.LightLaws.{light-grows, code-light-at, code-position-grows}
+use Rattle.position.specs.Position.{lightAt}
+use Rattle.position.specs.Code.{codePosition, codeLight}
+use Rattle.position.proofs.LightLaws.{light-grows}
+use Rattle.position.proofs.CodeLaws.{code-light-at, code-position-grows}
 use Rattle.eetf.specs.Curve.{bentLight, mappedLight}
 use Rattle.eetf.proofs.CurveLaws.{bent-grows}
 use Rattle.hlg.proofs.CodeLaws.{code-grows, grey-grows}
@@ -25,10 +28,10 @@ module _ (peak : ℕ) (x : Pixel) (m : ℕ) (i j : Component) (h : x i ≤ x j) 
   unfolding codeOf
   ordered-of = (mapped-grows, code-grows _ (mappedOf peak x m i) (mappedOf peak x m j) mapped-grows)
 
-pub ordered : (source : Source) (p : Pixel) (i j : Component) → codeLight (p i) ≤ codeLight (p j)
+pub ordered : (source : Source) (p : Pixel) (i j : Component) → codeLight (source .format) (p i) ≤ codeLight (source .format) (p j)
     → (mapped source p i ≤ mapped source p j) × (code source p i ≤ code source p j)
 unfolding code
-ordered source p = ordered-of (source .peak) (lights p) (brightestPosition p)
+ordered source p = ordered-of (source .peak) (lights (source .format) p) (brightestPosition (source .format) p)
 
 -- ---- every component of a grey is what its light is bent to, where that is the light at its position
 abbrev grey : ℕ → Pixel
@@ -53,7 +56,10 @@ module _ (peak : ℕ) {l m k n : ℕ} (e : l ≡ lightAt m) (f : k ≡ lightAt n
 
 pub greys : (source : Source) (c d : ℕ) → c ≤ d → (i j : Component) → code source (λ k. c) i ≤ code source (λ k. d) j
 unfolding code brightestPosition
-greys source c d h = greys-of (source .peak) (at c) (at d) (code-position-grows (brightest (grey c)) (brightest (grey d)) (omega arith))
+greys source c d h = greys-of (source .peak) (at c) (at d) (code-position-grows f (brightest (grey c)) (brightest (grey d)) (omega arith))
   where
-    at : (c : ℕ) → codeLight c ≡ lightAt (codePosition (brightest (grey c)))
-    at c = code-light-at c ∙ ap (λ D. lightAt (codePosition D)) (omega arith)
+    f : SampleFormat
+    f = source .format
+
+    at : (c : ℕ) → codeLight f c ≡ lightAt (codePosition f (brightest (grey c)))
+    at c = code-light-at f c ∙ ap (λ D. lightAt (codePosition f D)) (omega arith)

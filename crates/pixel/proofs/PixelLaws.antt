@@ -5,11 +5,14 @@ use native.Mathlib.Nat.{le-trans, zero-div, zero-mul}
 use native.Mathlib.Omega.{arith}
 use Rattle.laws.proofs.DivisionLaws.{floor-le, lt-floor}
 use Rattle.quantity.specs.Units.{thousand, tenThousand, lastPosition}
+use Rattle.quantity.specs.declared.sample_format.SampleFormat.{SampleFormat}
 use Rattle.quantity.specs.declared.Source.{Source}
 use Rattle.quantity.specs.Component.{Component, Pixel, brightest}
 use Rattle.quantity.proofs.ComponentLaws.{brightest-at, each-le, brightest-of}
-use Rattle.position.specs.Position.{codePosition, codeLight, lightAt}
-use Rattle.position.proofs.LightLaws.{light-at-most, code-light-at, code-light-grows}
+use Rattle.position.specs.Position.{lightAt}
+use Rattle.position.specs.Code.{codePosition, codeLight}
+use Rattle.position.proofs.LightLaws.{light-at-most}
+use Rattle.position.proofs.CodeLaws.{position-range, code-light-at, code-light-grows}
 use Rattle.eetf.specs.Curve.{bentLight, mappedLight}
 use Rattle.eetf.proofs.CurveLaws.{bent-le-thousand}
 use Rattle.eetf.proofs.MappingLaws.{ratio-le}
@@ -53,41 +56,49 @@ module _ (peak : ℕ) (x : Pixel) (m : ℕ) where
   unfolding bentOf
   bent-of-light e = ap (λ l. bentLight peak l m) e
 
+  pub light-ratio-kept : brightest x ≡ lightAt m → 0 < lightAt m → Mapped (lightAt m) (bentLight peak (lightAt m) m) x (mappedOf peak x m)
+  light-ratio-kept e h =
+      subst (λ M. Mapped M (bentLight peak (lightAt m) m) x (mappedOf peak x m)) e
+      (subst (λ n. Mapped (brightest x) n x (mappedOf peak x m)) (bent-of-light e) (ratio-kept (omega (arith, e, h))))
+
 -- ---- codes: the brightest light is that of the brightest code
-pub light-of-brightest : (p : Pixel) → brightestLight p ≡ codeLight (brightest p)
+pub light-of-brightest : (f : SampleFormat) (p : Pixel) → brightestLight f p ≡ codeLight f (brightest p)
 unfolding brightestLight
-light-of-brightest = brightest-of codeLight code-light-grows
+light-of-brightest f = brightest-of (codeLight f) (code-light-grows f)
 
-pub brightest-lit : (p : Pixel) → brightest (lights p) ≡ lightAt (brightestPosition p)
+pub brightest-lit : (f : SampleFormat) (p : Pixel) → brightest (lights f p) ≡ lightAt (brightestPosition f p)
 unfolding brightestPosition brightestLight
-brightest-lit p = light-of-brightest p ∙ code-light-at (brightest p)
+brightest-lit f p = omega (arith, light-of-brightest f p, code-light-at f (brightest p))
 
-pub mapped-dark : (source : Source) (p : Pixel) → brightestLight p ≡ 0 → (i : Component) → mapped source p i ≡ 0
+pub mapped-dark : (source : Source) (p : Pixel) → brightestLight (source .format) p ≡ 0 → (i : Component) → mapped source p i ≡ 0
 unfolding mapped
-mapped-dark source p = mapped-of-none (source .peak) (lights p) (brightestPosition p)
+mapped-dark source p = mapped-of-none (source .peak) (lights (source .format) p) (brightestPosition (source .format) p)
 
-pub code-dark : (source : Source) (p : Pixel) → brightestLight p ≡ 0 → (i : Component) → code source p i ≡ 64
+pub code-dark : (source : Source) (p : Pixel) → brightestLight (source .format) p ≡ 0 → (i : Component) → code source p i ≡ 64
 unfolding code
 code-dark source p h i = ap (hlgCode _) (mapped-dark source p h i) ∙ code-black _
 
 -- the ranges of lights, positions and codes
-pub component-le : (p : Pixel) (i : Component) → codeLight (p i) ≤ brightestLight p
+pub component-le : (f : SampleFormat) (p : Pixel) (i : Component) → codeLight f (p i) ≤ brightestLight f p
 unfolding brightestLight
-component-le p i = each-le (lights p) i
+component-le f p i = each-le (lights f p) i
 
-pub brightest-light-at-most : (p : Pixel) → brightestLight p ≤ tenThousand
-brightest-light-at-most p = omega (arith, light-of-brightest p, code-light-at (brightest p), light-at-most (codePosition (brightest p)))
+pub brightest-light-at-most : (f : SampleFormat) (p : Pixel) → brightestLight f p ≤ tenThousand
+brightest-light-at-most f p =
+    omega (arith, light-of-brightest f p, code-light-at f (brightest p), light-at-most (codePosition f (brightest p)))
 
-pub brightest-position-range : (p : Pixel) → brightestPosition p ≤ lastPosition
-unfolding brightestPosition lastPosition
-brightest-position-range p = omega arith
+pub brightest-position-range : (f : SampleFormat) (p : Pixel) → brightestPosition f p ≤ lastPosition
+unfolding brightestPosition
+brightest-position-range f p = position-range f (brightest p)
 
 pub bent-at-most : (source : Source) (p : Pixel) → bent source p ≤ thousand
 unfolding bent
 bent-at-most source p =
-    let m = brightestPosition p in
-    subst (λ n. n ≤ thousand) (sym (bent-of-light (source .peak) (lights p) m (brightest-lit p))) (bent-le-thousand (source .peak) m)
+    let f = source .format in
+    let m = brightestPosition f p in
+    subst (λ n. n ≤ thousand) (sym (bent-of-light (source .peak) (lights f p) m (brightest-lit f p))) (bent-le-thousand (source .peak) m)
 
 pub mapped-at-most : (source : Source) (p : Pixel) (i : Component) → mapped source p i ≤ thousand
 unfolding mapped
-mapped-at-most source p i = le-trans (mapped-le-bent (source .peak) (lights p) (brightestPosition p) i) (bent-at-most source p)
+mapped-at-most source p i =
+    le-trans (mapped-le-bent (source .peak) (lights (source .format) p) (brightestPosition (source .format) p) i) (bent-at-most source p)

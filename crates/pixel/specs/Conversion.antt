@@ -1,9 +1,10 @@
 -- A pixel of a declared source, converted (scope, The highlight curve and HLG code): from three lights and the position of the brightest, then
--- from ten-bit narrow-range codes, which have these. Lights in units, positions in 1/897,024.
+-- from codes of a depth and range, which have these. Lights in units, positions in 1/897,024.
 use Prim.Native.Nat.{ℕ}
+use Rattle.quantity.specs.declared.sample_format.SampleFormat.{SampleFormat}
 use Rattle.quantity.specs.declared.Source.{Source}
 use Rattle.quantity.specs.Component.{Component, red, green, blue, Pixel, brightest}
-use Rattle.position.specs.Position.{codePosition, codeLight}
+use Rattle.position.specs.Code.{codePosition, codeLight}
 use Rattle.eetf.specs.Curve.{bentLight, mappedLight}
 use Rattle.hlg.specs.Code.{luminance, hlgCode}
 
@@ -23,23 +24,23 @@ codeOf peak x m i =
     hlgCode (luminance (r red) (r green) (r blue)) (r i)
 
 -- ---- p are codes
-abbrev pub lights : Pixel → Pixel
-lights p i = codeLight (p i)
+abbrev pub lights : SampleFormat → Pixel → Pixel
+lights f p i = codeLight f (p i)
 
-unfoldable pub brightestLight : Pixel → ℕ
-brightestLight p = brightest (lights p)
+unfoldable pub brightestLight : SampleFormat → Pixel → ℕ
+brightestLight f p = brightest (lights f p)
 
-unfoldable pub brightestPosition : Pixel → ℕ
-brightestPosition p = codePosition (brightest p)
+unfoldable pub brightestPosition : SampleFormat → Pixel → ℕ
+brightestPosition f p = codePosition f (brightest p)
 
 unfoldable pub bent : Source → Pixel → ℕ
 unfolding bentOf brightestLight
-bent source p = bentOf (source .peak) (lights p) (brightestPosition p)
+bent source p = bentOf (source .peak) (lights (source .format) p) (brightestPosition (source .format) p)
 
 unfoldable pub mapped : Source → Pixel → Component → ℕ
 unfolding mappedOf bent
-mapped source p = mappedOf (source .peak) (lights p) (brightestPosition p)
+mapped source p = mappedOf (source .peak) (lights (source .format) p) (brightestPosition (source .format) p)
 
 unfoldable pub code : Source → Pixel → Component → ℕ
 unfolding codeOf mapped
-code source p = codeOf (source .peak) (lights p) (brightestPosition p)
+code source p = codeOf (source .peak) (lights (source .format) p) (brightestPosition (source .format) p)

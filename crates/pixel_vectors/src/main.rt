@@ -1,5 +1,6 @@
-// The pixel calls over stored questions on standard input, each a byte for the call, 0 for HLG codes of PQ and 1 for Y'CbCr of RGB, and four 8-byte
-// numbers, high byte first: peak, red, green, blue. Y'CbCr reads no peak. The answer is a line: the three codes, or `refused` with its number and place.
+// The pixel calls over stored questions on standard input, each a byte and four 8-byte numbers, high byte first: peak, red, green, blue. The byte over 8
+// leaves the call, 0 for HLG codes of PQ and 1 for Y'CbCr of RGB; its bits 3 and 4 are depth and range. Y'CbCr reads neither them nor the peak. The answer
+// is a line: the three codes, or `refused` with its number and place.
 ghost use Prim.Native.Nat.{_≤_};
 use libc::STDIN_FILENO;
 use libc::STDOUT_FILENO;
@@ -7,6 +8,7 @@ use pq_hlg::PixelAnswer;
 use pq_hlg::convert_codes;
 use pq_hlg::convert_pixel;
 use quantity::Source;
+use quantity::sample_format::format_of;
 
 fn widen(byte: u8) -> u64 {
     byte as u64
@@ -56,11 +58,13 @@ fn answer_next() -> bool {
     let red = number_at(&question, 9);
     let green = number_at(&question, 17);
     let blue = number_at(&question, 25);
-    if question[0] == 1 {
+    let call = widen(question[0]);
+    if call % 8 == 1 {
         return print_answer(convert_codes(red, green, blue));
     }
     let source = Source {
         peak: number_at(&question, 1),
+        format: format_of(call),
     };
     print_answer(convert_pixel(source, red, green, blue))
 }

@@ -1,3 +1,4 @@
 pub mod LightLaws
 pub mod PositionLaws
 pub mod PeakLaws
+pub mod CodeLaws

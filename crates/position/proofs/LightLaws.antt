@@ -1,4 +1,4 @@
--- Lights of positions and of codes: over any table of entries that grow, then of the light table itself.
+-- Lights of positions: over any table of entries that grow, then of the light table itself.
 use mathlib.Core.Path.{_≡_, sym, ap, _∙_}
 use mathlib.Core.List.{List}
 use Prim.Native.Nat.{ℕ, _+_, _-_, _*_, _/_, _%_, _≤_, _<_}
@@ -9,7 +9,7 @@ use Rattle.quantity.specs.Units.{tenThousand, lastPosition}
 use Rattle.pq.specs.LightTable.{lightTable, lightEntry}
 use Rattle.pq.specs.Pq.{entryIn}
 use Rattle.pq.proofs.EntryLaws.{entries-grow, entry-first, entry-last, entry-past}
-use Rattle.position.specs.Position.{codeIndex, codePosition, codeLightIn, lightAtIn, codeLight, lightAt}
+use Rattle.position.specs.Position.{lightAtIn, lightAt}
 
 -- a part f of 256 of a height d: no more than d, and by whole cells of 256 and the rest
 pub part-le : (d f : ℕ) → f < 256 → d * f / 256 ≤ d
@@ -89,27 +89,7 @@ light-at-most q = go (decLe q lastPosition)
     go (yes h) = omega (arith, light-grows q lastPosition h, last-light)
     go (no h) = omega (arith, past-range q (omega arith), entry-last)
 
--- a code's light is that at its own position, which is 256 times its index
-pub code-position : (D : ℕ) → codePosition D ≡ 256 * codeIndex D
-code-position D = omega arith
-
-pub code-light-at : (D : ℕ) → codeLight D ≡ lightAt (codePosition D)
-unfolding codeLight
-code-light-at D = sym (ap lightAt (code-position D) ∙ light-at-entry (codeIndex D))
-
--- position and light grow with the code
-pub code-position-grows : (D E : ℕ) → D ≤ E → codePosition D ≤ codePosition E
-code-position-grows D E h = omega arith
-
-pub code-light-grows : (D E : ℕ) → D ≤ E → codeLight D ≤ codeLight E
-unfolding codeLight
-code-light-grows D E h = entries-grow (codeIndex D) (codeIndex E) (omega arith)
-
 -- what is read off a lent table, where that is the light table
 pub lent-light : (t : List ℕ) (q : ℕ) → t ≡ lightTable → lightAtIn (entryIn t) q ≡ lightAt q
 unfolding lightAt lightEntry
 lent-light t q e = ap (λ (s : List ℕ). lightAtIn (entryIn s) q) e
-
-pub lent-code-light : (t : List ℕ) (D : ℕ) → t ≡ lightTable → codeLightIn (entryIn t) D ≡ codeLight D
-unfolding codeLight lightEntry
-lent-code-light t D e = ap (λ (s : List ℕ). codeLightIn (entryIn s) D) e

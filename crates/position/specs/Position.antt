@@ -1,34 +1,16 @@
--- Codes, positions and their lights (scope, Light: code, position). Light in units of 1/16,777,216 cd/m2, positions in 1/897,024 of the PQ signal.
+-- Positions and their lights (scope, Light: position). Light in units of 1/16,777,216 cd/m2, positions in 1/897,024 of the PQ signal.
 -- A light is read off a table given by its entries, P, so that a call on a lent table can be said too; the engine's is `lightEntry`.
-use Prim.Native.Nat.{ℕ, max, min, _+_, _-_, _*_, _/_, _%_, _≤_}
+use Prim.Native.Nat.{ℕ, _+_, _-_, _*_, _/_, _%_, _≤_}
 use lib.Dec.{leb}
 use Rattle.laws.specs.Largest.{largest}
 use Rattle.quantity.specs.Units.{lastPosition}
 use Rattle.pq.specs.LightTable.{lightEntry}
 
--- a code as it is read: narrow range, 64 to 940
-abbrev pub codeRead : ℕ → ℕ
-codeRead D = min (max D 64) 940
-
--- its index in the light table, four to a code, and its position, which is 256 times that
-abbrev pub codeIndex : ℕ → ℕ
-codeIndex D = 4 * (codeRead D - 64)
-
-abbrev pub codePosition : ℕ → ℕ
-codePosition D = 1024 * (codeRead D - 64)
-
--- P[4(D − 64)]
-abbrev pub codeLightIn : (ℕ → ℕ) → ℕ → ℕ
-codeLightIn P D = P (codeIndex D)
-
 -- P[k] + floor((P[k+1] − P[k]) × f / 256), k = q div 256 and f = q mod 256
 abbrev pub lightAtIn : (ℕ → ℕ) → ℕ → ℕ
 lightAtIn P q = let k = q / 256 in P k + (P (k + 1) - P k) * (q % 256) / 256
 
--- the light of a code, and the light at a position; past the last position that of the last, since P reads its last entry there
-unfoldable pub codeLight : ℕ → ℕ
-codeLight D = codeLightIn lightEntry D
-
+-- the light at a position; past the last position that of the last, since P reads its last entry there
 unfoldable pub lightAt : ℕ → ℕ
 lightAt q = lightAtIn lightEntry q
 

@@ -1,11 +1,13 @@
-// The position of a light, and the lights of positions and of codes. Each call reads the light table; those ending in `_in` read a lent one.
+// The position of a light, and the lights of positions. Each call reads the light table; those ending in `_in` read a lent one.
+pub mod code;
+
 ghost use mathlib.Core.Path.{_≡_};
 ghost use Prim.Native.Nat.{ℕ, _+_, _*_, _/_, _^_, _≤_, _<_};
 ghost use lib.Dec.{leb};
 ghost use Rattle.laws.specs.Largest.{largest};
 ghost use Rattle.pq.specs.LightTable.{lightTable};
 ghost use Rattle.pq.specs.Pq.{entryIn};
-ghost use Rattle.position.specs.Position.{codeRead, codePosition, codeLightIn, lightAtIn, codeLight, lightAt, positionOf};
+ghost use Rattle.position.specs.Position.{lightAtIn, lightAt, positionOf};
 use pq::entry_in;
 use pq::light_table;
 use quantity::DisplayLight;
@@ -74,39 +76,4 @@ fn interpolate(rise: u64, f: u64) -> u64
     ensures { λ r. ⌜ (r ≡ rise * f / 256) × (r ≤ rise) ⌝ }
 {
     rise / 256 * f + rise % 256 * f / 256
-}
-
-// The light of a code. Four entries of the table to a code.
-pub fn light_of_code(d: u64) -> DisplayLight
-    ensures { λ r. ⌜ r .0 ≡ codeLight d ⌝ }
-{
-    let table = light_table();
-    light_of_code_in(&table, d)
-}
-
-// The same on a lent table, whatever it holds.
-pub fn light_of_code_in(table: &[u64; 3505], d: u64) -> DisplayLight
-    ensures { λ r. ⌜ r .0 ≡ codeLightIn (entryIn (now (table .entry))) d ⌝ }
-{
-    entry_in(table, 4 * (read_code(d) - 64))
-}
-
-// The position of a code as read: 1,024 of them to a code.
-pub fn code_position(d: u64) -> Position
-    ensures { λ r. ⌜ r .0 ≡ codePosition d ⌝ }
-{
-    Position(1024 * (read_code(d) - 64))
-}
-
-// A code as it is read. Narrow range: what lies below black or above full signal is read as that.
-pub fn read_code(d: u64) -> u64
-    ensures { λ r. ⌜ r ≡ codeRead d ⌝ }
-{
-    if d < 64 {
-        return 64;
-    }
-    if 940 < d {
-        return 940;
-    }
-    d
 }

@@ -51,12 +51,13 @@ module _ (source : Source) (row : List ℕ) (bytes first end : ℕ) where
   unfolding rowAnswer
   row-accepted =
       let P : RowAnswer → Type 0 = λ a. a ≡ Converted → (peakRefused (source .peak) ≡ false) × Accepted row bytes first end in
-      either P (peakRefused (source .peak)) _ _ (λ _. refused-not-converted) (λ p h. (p, accepted sampleRefused row bytes first end h))
+      either P (peakRefused (source .peak)) _ _ (λ _. refused-not-converted) (λ p h. (p, accepted (sampleRefused (source .format)) row bytes first end h))
 
   pub row-number-fits : hostNumber (rowAnswer source row bytes first end) ≤ 6291456
   unfolding rowAnswer
   row-number-fits =
-      either (λ a. hostNumber a ≤ 6291456) (peakRefused (source .peak)) _ _ (λ _. omega arith) (λ _. host-number-fits sampleRefused row bytes first end)
+      either (λ a. hostNumber a ≤ 6291456) (peakRefused (source .peak)) _ _ (λ _. omega arith)
+      (λ _. host-number-fits (sampleRefused (source .format)) row bytes first end)
 
 -- the destination of a call that is refused, and of one that converts, by any conversion of a source
 module _ (f : Source → Pixel → Pixel) (source : Source) (row dst : List ℕ) (first end : ℕ) where

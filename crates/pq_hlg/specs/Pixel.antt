@@ -1,9 +1,11 @@
--- The pixel calls (scope, What stops a call; request 04: Y'CbCr): what they refuse, and their answers. Samples are ten-bit code values; what is declared
--- of the source is its peak, in whole cd/m2. The call on PQ codes tests refusal 5, then 9; the one on RGB codes 14.
+-- The pixel calls (scope, What stops a call; request 04: Y'CbCr; request 06: depth and range): what they refuse, and their answers. What is declared of
+-- the source is its peak, in whole cd/m2, and how its samples are coded. The call on PQ codes tests refusal 5, then 9; the one on RGB codes 14.
 use mathlib.Core.Bool.{Bool, cond, _||_}
 use Prim.Native.Nat.{ℕ}
 use lib.Dec.{eqb, ltb}
+use Rattle.quantity.specs.declared.sample_format.SampleFormat.{SampleFormat}
 use Rattle.quantity.specs.declared.Source.{Source}
+use Rattle.quantity.specs.SampleFormat.{leastTaken, mostTaken}
 use Rattle.quantity.specs.Component.{red, green, blue, Pixel}
 use Rattle.pixel.specs.Conversion.{code}
 use Rattle.distance.specs.Demand.{Voted}
@@ -16,17 +18,17 @@ use Rattle.pq_hlg.specs.declared.PixelAnswer.the-variants.{Codes, Refuse
 unfoldable pub peakRefused : ℕ → Bool
 peakRefused peak = eqb peak 0 || ltb 10000 peak
 
--- refusal 9: a sample below 4 or above 1,019
-abbrev pub sampleRefused : ℕ → Bool
-sampleRefused = outside 4 1019
+-- refusal 9: a sample out of the range in use
+abbrev pub sampleRefused : SampleFormat → ℕ → Bool
+sampleRefused f = outside (leastTaken f) (mostTaken f)
 
 -- what the call answers: a refusal with its place, which is that of the first refused sample counted from red, or the three HLG codes
 unfoldable pub pixelAnswer : Source → Pixel → PixelAnswer
 pixelAnswer source p =
     cond (peakRefused (source .peak)) (Refused 5 0)
-    (cond (sampleRefused (p red)) (Refused 9 0)
-    (cond (sampleRefused (p green)) (Refused 9 1)
-    (cond (sampleRefused (p blue)) (Refused 9 2)
+    (cond (sampleRefused (source .format) (p red)) (Refused 9 0)
+    (cond (sampleRefused (source .format) (p green)) (Refused 9 1)
+    (cond (sampleRefused (source .format) (p blue)) (Refused 9 2)
     (let codes = code source p in Codes (codes red) (codes green) (codes blue)))))
 
 -- refusal 14: an RGB code below 64 or above 1,019

@@ -1,14 +1,18 @@
-// The engine's calls: one pixel, its Y'CbCr, a span of a row as RGB or as Y'CbCr, and the row calls for a host in C. Samples are ten-bit narrow-range
-// code values, PQ in and HLG out; a peak is in whole cd/m2.
+// The engine's calls: one pixel, its Y'CbCr, a span of a row as RGB or as Y'CbCr, and the row calls for a host in C. Samples are PQ code values of the
+// source's depth and range in, and HLG ones of ten bits and narrow range out; a peak is in whole cd/m2.
 ghost use mathlib.Core.Path.{_≡_};
 ghost use Prim.Native.Nat.{_≤_};
 ghost use lib.ListN.{length};
 ghost use Rattle.quantity.specs.Component.{pixel};
 ghost use Rattle.rows.specs.Answer.{hostNumber};
 ghost use Rattle.ycbcr.specs.declared.SignalFormat.the-variants.{YCbCr};
-ghost use Rattle.pq_hlg.specs.Pixel.{peakRefused, pixelAnswer, ycbcrAnswer, VotedWhere};
+ghost use Rattle.pq_hlg.specs.Pixel.{peakRefused, sampleRefused, pixelAnswer, ycbcrAnswer, VotedWhere};
 ghost use Rattle.pq_hlg.specs.Row.{rowAnswer, deliveredAfter, destinationAfter, sourceOf};
 use quantity::Source;
+use quantity::sample_format::SampleFormat;
+use quantity::sample_format::format_of;
+use quantity::sample_format::least_taken;
+use quantity::sample_format::most_taken;
 use rows::RowAnswer;
 use rows::is_outside;
 use rows::test_span;
@@ -16,11 +20,6 @@ use span::convert_span;
 use span::pixel_codes;
 use span::ycbcr_codes;
 use ycbcr::SignalFormat;
-
-// The samples that are taken: the interface keeps the codes below and above for its timing.
-pub const LEAST_SAMPLE: u64 = 4;
-
-pub const MOST_SAMPLE: u64 = 1019;
 
 // The codes that HLG has.
 const LEAST_CODE: u64 = 64;
@@ -38,16 +37,17 @@ pub fn convert_pixel(source: Source, red: u64, green: u64, blue: u64) -> PixelAn
     ensures answer { λ r. ⌜ r ≡ pixelAnswer source (pixel red green blue) ⌝ }
     ensures voted { λ r. ⌜ VotedWhere r source (pixel red green blue) ⌝ }
 {
+    let format = source.format;
     if refuses_peak(source.peak) {
         return PixelAnswer::Refused(5, 0);
     }
-    if is_outside(red, LEAST_SAMPLE, MOST_SAMPLE) {
+    if refuses_sample(format, red) {
         return PixelAnswer::Refused(9, 0);
     }
-    if is_outside(green, LEAST_SAMPLE, MOST_SAMPLE) {
+    if refuses_sample(format, green) {
         return PixelAnswer::Refused(9, 1);
     }
-    if is_outside(blue, LEAST_SAMPLE, MOST_SAMPLE) {
+    if refuses_sample(format, blue) {
         return PixelAnswer::Refused(9, 2);
     }
     let codes = pixel_codes(source, red, green, blue);
@@ -100,34 +100,46 @@ pub fn convert_row_ycbcr(
     deliver_row(source, SignalFormat::YCbCr, row, dst, first, end)
 }
 
-// The row call for a host in C: 0, or the refusal plus 256 times its place.
+// The row call for a host in C: 0, or the refusal plus 256 times its place. Bits 3 and 4 of the format mean twelve bits and full range.
 #[no_mangle]
 pub extern "C" fn pq_hlg_convert_row(
     peak: u64,
+    format: u64,
     row: &[u8],
     dst: &mut [u8],
     first: usize,
     end: usize,
 ) -> u64
-    ensures { λ r. ⌜ (r ≡ hostNumber (rowAnswer (sourceOf peak) (now (row .entry)) (length (now (dst .entry))) first end))
-        × (now (dst .exit) ≡ destinationAfter (sourceOf peak) (now (row .entry)) (now (dst .entry)) first end) ⌝ }
+    ensures { λ r. ⌜ (r ≡ hostNumber (rowAnswer (sourceOf peak format) (now (row .entry)) (length (now (dst .entry))) first end))
+        × (now (dst .exit) ≡ destinationAfter (sourceOf peak format) (now (row .entry)) (now (dst .entry)) first end) ⌝ }
 {
-    host_number(convert_row(Source { peak: peak }, row, dst, first, end))
+    host_number(convert_row(host_source(peak, format), row, dst, first, end))
 }
 
 // The Y'CbCr row call for a host in C: the same number.
 #[no_mangle]
 pub extern "C" fn pq_hlg_convert_row_ycbcr(
     peak: u64,
+    format: u64,
     row: &[u8],
     dst: &mut [u8],
     first: usize,
     end: usize,
 ) -> u64
-    ensures { λ r. ⌜ (r ≡ hostNumber (rowAnswer (sourceOf peak) (now (row .entry)) (length (now (dst .entry))) first end))
-        × (now (dst .exit) ≡ deliveredAfter YCbCr (sourceOf peak) (now (row .entry)) (now (dst .entry)) first end) ⌝ }
+    ensures { λ r. ⌜ (r ≡ hostNumber (rowAnswer (sourceOf peak format) (now (row .entry)) (length (now (dst .entry))) first end))
+        × (now (dst .exit) ≡ deliveredAfter YCbCr (sourceOf peak format) (now (row .entry)) (now (dst .entry)) first end) ⌝ }
 {
-    host_number(convert_row_ycbcr(Source { peak: peak }, row, dst, first, end))
+    host_number(convert_row_ycbcr(host_source(peak, format), row, dst, first, end))
+}
+
+// What a host declares by two numbers.
+fn host_source(peak: u64, format: u64) -> Source
+    ensures { λ r. ⌜ r ≡ sourceOf peak format ⌝ }
+{
+    Source {
+        peak: peak,
+        format: format_of(format),
+    }
 }
 
 // A row call in a signal format: the tests, then the span.
@@ -167,10 +179,18 @@ fn host_number(answer: RowAnswer) -> u64
 fn test_row(source: Source, row: &[u8], bytes: usize, first: usize, end: usize) -> RowAnswer
     ensures { λ r. ⌜ r ≡ rowAnswer source (now (row .entry)) bytes first end ⌝ }
 {
+    let format = source.format;
     if refuses_peak(source.peak) {
         return RowAnswer::Refused(5, 0);
     }
-    test_span(row, bytes, first, end, LEAST_SAMPLE, MOST_SAMPLE)
+    test_span(
+        row,
+        bytes,
+        first,
+        end,
+        least_taken(format),
+        most_taken(format),
+    )
 }
 
 // A peak of 0 or above 10,000 cd/m2 is refused.
@@ -181,4 +201,11 @@ fn refuses_peak(peak: u64) -> bool
         return true;
     }
     10000 < peak
+}
+
+// Test 9 of a sample in a format.
+fn refuses_sample(format: SampleFormat, d: u64) -> bool
+    ensures { λ r. ⌜ r ≡ sampleRefused format d ⌝ }
+{
+    is_outside(d, least_taken(format), most_taken(format))
 }

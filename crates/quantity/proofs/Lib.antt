@@ -1,1 +1,2 @@
 pub mod ComponentLaws
+pub mod FormatLaws

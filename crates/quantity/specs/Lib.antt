@@ -1,3 +1,4 @@
 pub mod Units
 pub mod Component
+pub mod SampleFormat
 pub mod Source

@@ -1,7 +1,10 @@
 // The quantities that the engine counts in, each a type of its own so that none is taken for another, and what is declared of a source picture.
+pub mod sample_format;
+
 ghost use mathlib.Core.Path.{_≡_};
 ghost use Prim.Native.Nat.{max, min};
 ghost use Rattle.quantity.specs.Component.{pixel, brightest};
+use sample_format::SampleFormat;
 
 // Light of the mastering or delivery display, in 1/16,777,216 cd/m2.
 pub struct DisplayLight(pub u64);
@@ -22,9 +25,10 @@ pub const TEN_THOUSAND: u64 = 167772160000;
 // The position of 10,000 cd/m2, past which there is none.
 pub const LAST_POSITION: u64 = 897024;
 
-// What is declared of a source picture: the peak that it was graded at, in whole cd/m2.
+// What is declared of a source picture: the peak that it was graded at, in whole cd/m2, and how its samples are coded.
 pub struct Source {
     pub peak: u64,
+    pub format: SampleFormat,
 }
 
 // The ends of a range: a stage that is given a number past one reads that end.

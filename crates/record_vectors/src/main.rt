@@ -1,7 +1,8 @@
-// The calls of the measuring run over stored questions on standard input, all numbers high byte first: a record in five 8-byte numbers (rows, pixels,
-// position, row, pixel), the length of a row in two bytes, and the row. The answer is a line: what the row makes of the record, and after a colon what the
-// record itself has measured.
+// The calls of the measuring run over stored questions on standard input, all numbers high byte first: a byte whose bits 3 and 4 are depth and range, a
+// record in five 8-byte numbers (rows, pixels, position, row, pixel), the length of a row in two bytes, and the row. The answer is a line: what the row
+// makes of the record, and after a colon what the record itself has measured.
 ghost use Prim.Native.Nat.{_≤_};
+use big_endian::byte_at;
 use big_endian::number_at;
 use content_light::PeakAnswer;
 use content_light::RecordAnswer;
@@ -11,10 +12,11 @@ use content_light::measured_peak;
 use libc::STDIN_FILENO;
 use libc::STDOUT_FILENO;
 use quantity::Position;
+use quantity::sample_format::format_of;
 
 // The 8-byte number that starts at a place of a question.
 fn wide_number_at(question: &[u8], place: usize) -> u64
-    requires { ⌜ place ≤ 32 ⌝ }
+    requires { ⌜ place ≤ 33 ⌝ }
 {
     let high = number_at(question, place) << 16 | number_at(question, place + 2);
     let low = number_at(question, place + 4) << 16 | number_at(question, place + 6);
@@ -64,14 +66,14 @@ fn print_peak(answer: PeakAnswer) -> bool {
 // One question and its answer; false at the end of the input, which may cut a question short, for a row that is longer than the buffer, and after a
 // failed write.
 fn answer_next() -> bool {
-    let mut question = [0u8; 42];
+    let mut question = [0u8; 43];
     let got = io::read_full(STDIN_FILENO, &mut question);
-    if got != 42 {
+    if got != 43 {
         return false;
     }
     // the longest row, and one pixel more
     let mut row = [0u8; 49158];
-    let bytes = number_at(&question, 40) as usize;
+    let bytes = number_at(&question, 41) as usize;
     if 49158 < bytes {
         return false;
     }
@@ -84,13 +86,14 @@ fn answer(question: &[u8], row: &mut [u8]) -> bool {
         return false;
     }
     let run = RunRecord {
-        rows: wide_number_at(question, 0),
-        pixels: wide_number_at(question, 8),
-        position: Position(wide_number_at(question, 16)),
-        row: wide_number_at(question, 24),
-        pixel: wide_number_at(question, 32),
+        rows: wide_number_at(question, 1),
+        pixels: wide_number_at(question, 9),
+        position: Position(wide_number_at(question, 17)),
+        row: wide_number_at(question, 25),
+        pixel: wide_number_at(question, 33),
     };
-    print_record(measure_row(run, row)) && print_peak(measured_peak(run))
+    let format = format_of(byte_at(question, 0));
+    print_record(measure_row(run, format, row)) && print_peak(measured_peak(run))
 }
 
 fn main() {

@@ -9,9 +9,11 @@ use borrow.Author.Count.{below-none, below-more}
 use lib.ListN.{length, getD, set, length-set, length-append}
 use lib.Seq.{getD-set-same, getD-set-other}
 use Rattle.quantity.specs.Units.{thousand}
+use Rattle.quantity.specs.declared.sample_format.SampleFormat.{SampleFormat}
 use Rattle.quantity.specs.declared.Source.{Source}
+use Rattle.quantity.specs.SampleFormat.{black}
 use Rattle.quantity.specs.Component.{Component, red, green, blue, Pixel, pixel}
-use Rattle.position.proofs.LightLaws.{code-light-at, first-light}
+use Rattle.position.proofs.CodeLaws.{black-light}
 use Rattle.hlg.specs.Code.{luminance, hlgCode, HlgCodes}
 use Rattle.hlg.specs.Root.{IsRoot}
 use Rattle.hlg.proofs.CodeLaws.{code-from, code-to, code-black}
@@ -24,13 +26,16 @@ use Rattle.ycbcr.proofs.DeliveryLaws.{format-at-most}
 use Rattle.span.specs.Block.{HasMapped, wordsAt, storedAt, luminanceAt, MappedTo, Within, RootsTo, samplesOf, HasSamples, blockBytes}
 
 -- black is mapped to no light
-no-light : brightestLight (pixel 64 64 64) ≡ 0
+no-light : (f : SampleFormat) → brightestLight f (pixel (black f) (black f) (black f)) ≡ 0
 unfolding brightestLight
-no-light = omega (arith, code-light-at 64, first-light)
+no-light f = omega (arith, black-light f (black f) (omega arith))
 
-pub black-mapped : (source : Source) {r g b x y z : ℕ} → r ≡ 64 → g ≡ 64 → b ≡ 64 → x ≡ 0 → y ≡ 0 → z ≡ 0 → HasMapped source r g b x y z
+pub black-mapped : (source : Source) {r g b x y z : ℕ} → let f = source .format in
+    r ≡ black f → g ≡ black f → b ≡ black f → x ≡ 0 → y ≡ 0 → z ≡ 0 → HasMapped source r g b x y z
 black-mapped source er eg eb ex ey ez =
-    let dark : (i : Component) → 0 ≡ mapped source (pixel 64 64 64) i = λ i. sym (mapped-dark source (pixel 64 64 64) no-light i) in
+    let code = black (source .format) in
+    let p = pixel code code code in
+    let dark : (i : Component) → 0 ≡ mapped source p i = λ i. sym (mapped-dark source p (no-light (source .format)) i) in
     rw (er, eg, eb, ex, ey, ez) (record { red = dark red; green = dark green; blue = dark blue })
 
 -- three words stored one after another
@@ -116,7 +121,8 @@ module _ (format : SignalFormat) where
   block-is-span source row words (suc n) m =
       let here = samples-of-pixel source (wordsAt words n) (pixelAt row n) (m n (omega arith)) in
       let at : pixelAt row n ≡ pixelAt row (0 + n) = ap (pixelAt row) (sym (zero-add n)) in
-      ap₂ (λ (l : List ℕ) (p : Pixel). l ++ pixelBytes p) (block-is-span source row words n (λ k h. m k (omega arith))) (here ∙ ap (delivered format source) at)
+      ap₂ (λ (l : List ℕ) (p : Pixel). l ++ pixelBytes p) (block-is-span source row words n (λ k h. m k (omega arith)))
+      (here ∙ ap (delivered format source) at)
 
   -- the bytes of one pixel more
   pub block-more : (words : List ℕ) (n : ℕ) → blockBytes format words (n + 1) ≡ blockBytes format words n ++ pixelBytes (samplesOf format (wordsAt words n))

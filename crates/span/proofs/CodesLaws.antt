@@ -6,11 +6,13 @@ use native.Mathlib.Nat.{div-zero}
 use native.Mathlib.Omega.{arith}
 use Rattle.laws.proofs.DivisionLaws.{floor-is}
 use Rattle.quantity.specs.Units.{units, tenThousand, lastPosition}
+use Rattle.quantity.specs.declared.sample_format.SampleFormat.{SampleFormat}
 use Rattle.quantity.specs.declared.Source.{Source}
 use Rattle.quantity.specs.Component.{Component, red, green, blue, Pixel}
 use Rattle.pq.specs.LightTable.{lightTable}
 use Rattle.pq.specs.Pq.{entryIn}
-use Rattle.position.specs.Position.{codeLight, positionOf}
+use Rattle.position.specs.Position.{positionOf}
+use Rattle.position.specs.Code.{codeLight}
 use Rattle.eetf.specs.Curve.{peakPositionRead, bentLightIn, bentLight, mappedLight}
 use Rattle.eetf.proofs.CurveLaws.{bent-on-light-table}
 use Rattle.hlg.specs.Code.{HlgCodes}
@@ -23,29 +25,33 @@ unscaled c zero h = let e : c ≡ 0 = omega arith in e ∙ sym (div-zero (c * 0)
 unscaled c (suc m) h = let pos : 0 < suc m = omega arith in floor-is pos .1 (omega arith, omega arith)
 
 module _ (source : Source) (p : Pixel) where
-  pub brightest-light-is : {R G B M : ℕ} → R ≡ codeLight (p red) → G ≡ codeLight (p green) → B ≡ codeLight (p blue) → M ≡ max (max R G) B
-      → M ≡ brightestLight p
+  abbrev f : SampleFormat
+  f = source .format
+
+  pub brightest-light-is : {R G B M : ℕ} → R ≡ codeLight f (p red) → G ≡ codeLight f (p green) → B ≡ codeLight f (p blue)
+      → M ≡ max (max R G) B → M ≡ brightestLight f p
   unfolding brightestLight
   brightest-light-is er eg eb e = omega arith
 
   -- by a lent light table l and the peak's position w; neither light nor position is past the end at which the curve reads it
-  pub bent-is : (l : List ℕ) (w : ℕ) {M m N : ℕ} → l ≡ lightTable → w ≡ positionOf (source .peak * units) → M ≡ brightestLight p → m ≡ brightestPosition p
+  pub bent-is : (l : List ℕ) (w : ℕ) {M m N : ℕ} → l ≡ lightTable → w ≡ positionOf (source .peak * units) → M ≡ brightestLight f p → m ≡ brightestPosition f p
       → N ≡ bentLightIn (entryIn l) (source .peak) (peakPositionRead w) (min M tenThousand) (min m lastPosition) → N ≡ bent source p
   unfolding bent
   bent-is l w {M} {m} el ew eM em e =
       e
       ∙ bent-on-light-table l (source .peak) w (min M tenThousand) (min m lastPosition) el ew
-      ∙ ap₂ (bentLight (source .peak)) (omega (arith, brightest-light-at-most p)) (omega (arith, brightest-position-range p))
+      ∙ ap₂ (bentLight (source .peak)) (omega (arith, brightest-light-at-most f p)) (omega (arith, brightest-position-range f p))
 
-  pub mapped-is : (i : Component) {C M N x : ℕ} → C ≡ codeLight (p i) → M ≡ brightestLight p → N ≡ bent source p → x ≡ mappedLight C M N → x ≡ mapped source p i
+  pub mapped-is : (i : Component) {C M N x : ℕ} → C ≡ codeLight f (p i) → M ≡ brightestLight f p → N ≡ bent source p → x ≡ mappedLight C M N
+      → x ≡ mapped source p i
   unfolding mapped
   mapped-is i eC eM eN e = e ∙ rw (eC, eM, eN)
 
   -- where nothing is bent the mapped components are the lights
-  pub mapped-unbent : (i : Component) {C M N : ℕ} → C ≡ codeLight (p i) → M ≡ brightestLight p → N ≡ bent source p → M ≡ N → C ≡ mapped source p i
+  pub mapped-unbent : (i : Component) {C M N : ℕ} → C ≡ codeLight f (p i) → M ≡ brightestLight f p → N ≡ bent source p → M ≡ N → C ≡ mapped source p i
   unfolding mapped mappedLight
   mapped-unbent i {C} {M} eC eM eN same =
-      unscaled C M (omega (arith, component-le p i)) ∙ ap₂ (λ (c d : ℕ). c * d / M) eC (same ∙ eN) ∙ ap (λ (d : ℕ). codeLight (p i) * bent source p / d) eM
+      unscaled C M (omega (arith, component-le f p i)) ∙ ap₂ (λ (c d : ℕ). c * d / M) eC (same ∙ eN) ∙ ap (λ (d : ℕ). codeLight f (p i) * bent source p / d) eM
 
   pub codes-are : {R G B r g b : ℕ} → R ≡ mapped source p red → G ≡ mapped source p green → B ≡ mapped source p blue → HlgCodes R G B r g b
       → (r ≡ code source p red) × (g ≡ code source p green) × (b ≡ code source p blue)

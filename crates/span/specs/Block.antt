@@ -5,14 +5,23 @@ use mathlib.Core.List.{List, [], _++_}
 use Prim.Native.Nat.{ℕ, zero, suc, _+_, _*_, _≤_, _<_}
 use lib.ListN.{getD, set}
 use Rattle.quantity.specs.Units.{thousand}
+use Rattle.quantity.specs.declared.sample_format.SampleFormat.{SampleFormat}
 use Rattle.quantity.specs.declared.Source.{Source}
 use Rattle.quantity.specs.Component.{Component, red, green, blue, Pixel, pixel}
+use Rattle.position.specs.Code.{codeLight}
 use Rattle.hlg.specs.Code.{luminance, hlgCode}
 use Rattle.hlg.specs.Root.{IsRoot}
-use Rattle.pixel.specs.Conversion.{mapped}
+use Rattle.pixel.specs.Conversion.{brightestPosition, mapped}
 use Rattle.rows.specs.Row.{pixelAt, pixelBytes}
 use Rattle.ycbcr.specs.declared.SignalFormat.{SignalFormat}
 use Rattle.ycbcr.specs.Delivery.{inFormat}
+
+-- x, y, z are the lights of the codes r g b, and m is the position of the brightest code
+pub record HasLights (f : SampleFormat) (r g b x y z m : ℕ) : Type 0 where
+  pub red : x ≡ codeLight f r
+  pub green : y ≡ codeLight f g
+  pub blue : z ≡ codeLight f b
+  pub position : m ≡ brightestPosition f (pixel r g b)
 
 -- x, y, z are the mapped components of the pixel r g b
 pub record HasMapped (source : Source) (r g b x y z : ℕ) : Type 0 where

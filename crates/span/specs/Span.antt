@@ -13,7 +13,7 @@ use Rattle.ycbcr.specs.Delivery.{delivered}
 
 -- what is declared of a source as it is read
 abbrev pub sourceRead : Source → Source
-sourceRead source = record { peak = peakRead (source .peak) }
+sourceRead source = record { peak = peakRead (source .peak); format = source .format }
 
 -- the HLG codes of a pixel of such a source
 abbrev pub codesUnder : Source → Pixel → Pixel

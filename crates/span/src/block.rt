@@ -5,6 +5,7 @@ ghost use mathlib.Core.Path.{_≡_};
 ghost use Prim.Native.Nat.{_*_, _≤_, _<_};
 ghost use lib.ListN.{length};
 ghost use Rattle.quantity.specs.Units.{units, thousand};
+ghost use Rattle.quantity.specs.SampleFormat.{black};
 ghost use Rattle.quantity.specs.Component.{red, green, blue};
 ghost use Rattle.pq.specs.LightTable.{lightTable};
 ghost use Rattle.position.specs.Position.{positionOf};
@@ -25,6 +26,8 @@ use crate::root::weigh;
 use hlg::Codes;
 use quantity::Position;
 use quantity::Source;
+use quantity::sample_format::SampleFormat;
+use quantity::sample_format::black_code;
 use rows::sample_at;
 use ycbcr::SignalFormat;
 
@@ -60,18 +63,20 @@ struct MappedPixel {
 }
 
 // Black, which is mapped to no light under every peak.
-fn mapped_black() -> MappedPixel
-    ensures { λ m. ⌜ (m .red ≡ 64) × (m .green ≡ 64) × (m .blue ≡ 64) × (m .mapped .red ≡ 0) × (m .mapped .green ≡ 0) × (m .mapped .blue ≡ 0) ⌝ }
+fn mapped_black(format: SampleFormat) -> MappedPixel
+    ensures { λ m. ⌜ (m .red ≡ black format) × (m .green ≡ black format) × (m .blue ≡ black format) × (m .mapped .red ≡ 0) × (m .mapped .green ≡ 0)
+        × (m .mapped .blue ≡ 0) ⌝ }
 {
+    let code = black_code(format);
     let dark = Mapped {
         red: 0,
         green: 0,
         blue: 0,
     };
     MappedPixel {
-        red: 64,
-        green: 64,
-        blue: 64,
+        red: code,
+        green: code,
+        blue: code,
         mapped: dark,
     }
 }
@@ -123,7 +128,8 @@ fn map_pixels(
         × (length (now words) ≡ 96) ⌝ }
     ensures { λ _. ⌜ MappedTo source (now (src .entry)) (now (words .exit)) pixels ⌝ }
 {
-    let mut last = mapped_black();
+    let format = source.format;
+    let mut last = mapped_black(format);
     let mut j = 0;
     while j < pixels {
         let from = 6 * j;

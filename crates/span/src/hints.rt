@@ -16,6 +16,9 @@ const SLOPES: u64 = 1048576;
 
 const CODE: u64 = 4294967296;
 
+// 2^64 - 1.
+const WORD: u64 = 18446744073709551615;
+
 // The hints. Each mention of the constant fills an array, so it is mentioned here alone: taken once a call and lent.
 pub(crate) fn hint_table() -> [u64; 1361] {
     HINTS
@@ -53,14 +56,33 @@ pub(crate) fn code_hint(hints: &[u64; 1361], p: u64) -> u64 {
     wrapping_add_u64(line, line % SLOPES * (n / LEADING_BITS)) / CODE
 }
 
-// 2^62 m2 / m1 for m1 the light of the brightest code d.
-pub(crate) fn factor_hint(hints: &[u64; 1361], d: u64, m2: u64) -> u64 {
-    if d < 610 {
+// 2^62 m2 / m1 for m1 the light at the position m of the brightest code. The positions of ten-bit narrow-range codes have stored reciprocals from code
+// 610 on, which is the darkest that is bent; others are divided.
+pub(crate) fn factor_hint(hints: &[u64; 1361], m: u64, m1: u64, m2: u64) -> u64 {
+    if m % 1024 != 0 {
+        return factor_of(m2, reciprocal(m1));
+    }
+    let code = m / 1024;
+    if code < 546 {
         return 0;
     }
-    if 940 < d {
+    if 876 < code {
         return 0;
     }
-    let i = (420 + d) as usize;
-    wrapping_add_u64(upper_word(m2 << 30, hints[i]), 1)
+    let i = (484 + code) as usize;
+    factor_of(m2, hints[i])
+}
+
+// 2^62 m2 / m1 by 2^96 / m1.
+fn factor_of(m2: u64, reciprocal: u64) -> u64 {
+    wrapping_add_u64(upper_word(m2 << 30, reciprocal), 1)
+}
+
+// 2^96 / m1 for m1 from 2^32 on: a word over m1, and one step of Newton's by its rest.
+fn reciprocal(m1: u64) -> u64 {
+    if m1 == 0 {
+        return 0;
+    }
+    let quotient = WORD / m1 << 32;
+    wrapping_add_u64(quotient, upper_word(quotient, WORD % m1))
 }

@@ -84,8 +84,10 @@ pub fn pixel_codes(source: Source, r: u64, g: u64, b: u64) -> Codes
 fn read_source(source: Source) -> Source
     ensures { λ r. ⌜ (r ≡ sourceRead source) × (r .peak ≤ 10000) ⌝ }
 {
+    let format = source.format;
     Source {
         peak: read_peak(source.peak),
+        format: format,
     }
 }
 

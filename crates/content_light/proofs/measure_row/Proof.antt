@@ -8,7 +8,7 @@ use lib.ListN.{length}
 use Rattle.rows.specs.Answer.{lengthRefused}
 use Rattle.rows.proofs.AnswerLaws.{length-taken}
 use Rattle.content_light.specs.declared.RunRecord.{RunRecord}
-use Rattle.content_light.specs.Peak.{mostRows}
+use Rattle.content_light.specs.Peak.{rowIn, mostRows}
 use Rattle.content_light.specs.Run.{withRow}
 use Rattle.content_light.proofs.BoundLaws.{from-zero}
 use Rattle.content_light.proofs.RecordLaws.{most-rows}
@@ -27,12 +27,13 @@ room : (c : tie.After-sample-bounds) → start c .args .run .rows < mostRows
 room c = omega (arith, most-rows, c .before .before .before .if1 .left)
 
 returns : tie.Need-returns
-returns c = let a = c .before .before .before .args in all-counted (a .run) (a .row .now) (omega (arith, most-rows, c .if1 .taken))
+returns c = let a = c .before .before .before .args in all-counted (a .run) (rowIn (a .format) (a .row .now)) (omega (arith, most-rows, c .if1 .taken))
 
 returns-2 : tie.Need-returns-2
 returns-2 c =
     let a = c .before .before .before .before .before .args in
-    length-told (a .run) (a .row .now) (omega (arith, most-rows, c .before .before .if1 .left)) (sym (c .before .refuses-length .ensures) ∙ c .if2 .taken)
+    length-told (a .run) (rowIn (a .format) (a .row .now)) (omega (arith, most-rows, c .before .before .if1 .left))
+    (sym (c .before .refuses-length .ensures) ∙ c .if2 .taken)
 
 first-untaken-requires : tie.Need-first-untaken-requires
 first-untaken-requires c κs = (length-taken _ (length-passed c) .0, c .sample-bounds .ensures)
@@ -59,7 +60,7 @@ returns-4 : tie.Need-returns-4
 returns-4 c =
     let b = c .before .before .before .before in
     counted-in _ _ (room b) (length-passed b) (c .before .before .before .first-untaken .ensures) (c .before .before .if3 .left)
-    (c .with-row .ensures ∙ ap (λ (s : RunRecord). withRow s (start b .args .row .now)) (c .before .read-record .ensures))
+    (c .with-row .ensures ∙ ap (λ (s : RunRecord). withRow s (rowIn (start b .args .format) (start b .args .row .now))) (c .before .read-record .ensures))
 
 pub measure-row-spec : {M : Type 1} → statement M
 measure-row-spec =

@@ -7,8 +7,8 @@ use Rattle.measured_title.proofs.measure_title.Tie as tie
 
 measure-rows-requires : tie.Need-measure-rows-requires
 measure-rows-requires c κs =
-    let opened = c .before .before .before .before .open-title .ensures in
-    has-rows (opened .0) (sym (opened .1) ∙ c .before .before .opening .given .1) .2
+    let opened = c .before .before .before .before .before .open-title .ensures in
+    has-rows (opened .0) (sym (opened .1) ∙ c .before .before .before .opening .given .1) .2
 
 pub measure-title-spec : {M : Type 1} → statement M
 measure-title-spec =

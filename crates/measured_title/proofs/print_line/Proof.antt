@@ -8,10 +8,10 @@ use Rattle.measured_title.proofs.print_line.Statement.{statement}
 use Rattle.measured_title.proofs.print_line.Tie as tie
 
 abbrev Inv-loop : tie.InvT-loop
-Inv-loop program limit width row₀ run₀ left₀ row run left = length row ≡ length row₀
+Inv-loop program limit format width row₀ run₀ left₀ row run left = length row ≡ length row₀
 
 abbrev μ-loop : tie.MeasureT-loop
-μ-loop program limit width row₀ run₀ left₀ row run left = left
+μ-loop program limit format width row₀ run₀ left₀ row run left = left
 
 pub print-line-spec : {M : Type 1} → statement M
 print-line-spec =

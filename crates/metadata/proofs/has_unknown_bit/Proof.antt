@@ -1,5 +1,4 @@
--- A bit without meaning stands in a byte above 7.
-use mathlib.Core.Path.{sym, _∙_}
+-- A bit without meaning stands in a byte above 31.
 use denote.Ref.{now}
 use native.Mathlib.Omega.{arith}
 use borrow.Author.Needs.{needs}

@@ -38,14 +38,25 @@ returns-4 c =
 returns-5 : tie.Need-returns-5
 unfolding cardAnswer
 returns-5 c =
-    let card = now (c .before .before .before .before .before .before .before .before .before .args .card) in
-    let some = ne-eqb _ _ (c .before .before .before .before .before .before .before .if1 .left) in
-    let known = sym (c .before .before .before .before .before .before .has-unknown-bit .ensures) ∙ c .before .before .before .before .before .if2 .left in
+    let card = now (c .before .before .before .before .before .before .before .before .before .before .args .card) in
+    let some = ne-eqb _ _ (c .before .before .before .before .before .before .before .before .if1 .left) in
+    let meant = c .before .before .before .before .before .before in
+    let known = sym (meant .before .has-unknown-bit .ensures) ∙ meant .if2 .left in
     let whole = le-ltb (length card) (cardBytes card) (omega arith) in
-    let in-range = sym (c .before .before .has-field-out-of-range .ensures) ∙ c .before .if4 .left in
-    simp (some, known, whole, in-range, c .peak-of-fields .ensures)
+    let in-range = sym (c .before .before .before .has-field-out-of-range .ensures) ∙ c .before .before .if4 .left in
+    simp (some, known, whole, in-range, c .before .peak-of-fields .ensures, c .format-of-bits .ensures)
 
 pub source-of-metadata-spec : {M : Type 1} → statement M
 source-of-metadata-spec =
     tie.close
-    (tie.spec returns (λ c κs. search needs) returns-2 (λ c κs. search needs) returns-3 (λ c κs. search needs) returns-4 (λ c κs. search needs) returns-5)
+    (tie.spec
+    returns
+    (λ c κs. search needs)
+    returns-2
+    (λ c κs. search needs)
+    returns-3
+    (λ c κs. search needs)
+    returns-4
+    (λ c κs. search needs)
+    (λ c κs. search needs)
+    returns-5)

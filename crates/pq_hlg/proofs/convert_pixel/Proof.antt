@@ -15,7 +15,7 @@ returns c = (simp (sym (c .before .refuses-peak .ensures), c .if1 .taken), tt)
 returns-2 : tie.Need-returns-2
 unfolding pixelAnswer VotedWhere
 returns-2 c =
-    (simp (sym (c .before .before .before .refuses-peak .ensures), c .before .before .if1 .left, sym (c .before .is-outside .ensures), c .if2 .taken), tt)
+    (simp (sym (c .before .before .before .refuses-peak .ensures), c .before .before .if1 .left, sym (c .before .refuses-sample .ensures), c .if2 .taken), tt)
 
 returns-3 : tie.Need-returns-3
 unfolding pixelAnswer VotedWhere
@@ -23,9 +23,9 @@ returns-3 c = (
   simp (
     sym (c .before .before .before .before .before .refuses-peak .ensures),
     c .before .before .before .before .if1 .left,
-    sym (c .before .before .before .is-outside .ensures),
+    sym (c .before .before .before .refuses-sample .ensures),
     c .before .before .if2 .left,
-    sym (c .before .is-outside2 .ensures),
+    sym (c .before .refuses-sample2 .ensures),
     c .if3 .taken,
   ),
   tt,
@@ -37,38 +37,42 @@ returns-4 c = (
   simp (
     sym (c .before .before .before .before .before .before .before .refuses-peak .ensures),
     c .before .before .before .before .before .before .if1 .left,
-    sym (c .before .before .before .before .before .is-outside .ensures),
+    sym (c .before .before .before .before .before .refuses-sample .ensures),
     c .before .before .before .before .if2 .left,
-    sym (c .before .before .before .is-outside2 .ensures),
+    sym (c .before .before .before .refuses-sample2 .ensures),
     c .before .before .if3 .left,
-    sym (c .before .is-outside3 .ensures),
+    sym (c .before .refuses-sample3 .ensures),
     c .if4 .taken,
   ),
   tt,
 )
 
 -- the peak has passed its test
-taken : (c : tie.After-pixel-codes) → peakRefused (c .before .before .before .before .before .before .before .before .before .args .source .peak) ≡ false
+abbrev start : tie.After-pixel-codes → tie.Start
+start c = c .before .before .before .before .before .before .before .before .before .before
+
+taken : (c : tie.After-pixel-codes) → peakRefused (start c .args .source .peak) ≡ false
 taken c = let tested = c .before .before .before .before .before .before .before in sym (tested .before .refuses-peak .ensures) ∙ tested .if1 .left
 
 returns-5 : tie.Need-returns-5
 unfolding pixelAnswer VotedWhere
 returns-5 c =
-    let codes = rw (source-read _ (taken c)) at (c .pixel-codes .ensures) in (
+    let source = start c .args .source in
+    let codes = rw (source-read source (taken c)) at (c .pixel-codes .ensures) in (
       simp (
         sym (c .before .before .before .before .before .before .before .before .refuses-peak .ensures),
         c .before .before .before .before .before .before .before .if1 .left,
-        sym (c .before .before .before .before .before .before .is-outside .ensures),
+        sym (c .before .before .before .before .before .before .refuses-sample .ensures),
         c .before .before .before .before .before .if2 .left,
-        sym (c .before .before .before .before .is-outside2 .ensures),
+        sym (c .before .before .before .before .refuses-sample2 .ensures),
         c .before .before .before .if3 .left,
-        sym (c .before .before .is-outside3 .ensures),
+        sym (c .before .before .refuses-sample3 .ensures),
         c .before .if4 .left,
         codes .0,
         codes .1,
         codes .2,
       ),
-      voted _ _ (peak-taken _ (taken c) .1),
+      voted source _ (peak-taken (source .peak) (taken c) .1),
     )
 
 pub convert-pixel-spec : {M : Type 1} → statement M

@@ -11,7 +11,9 @@ returns c = simp (sym (c .before .refuses-peak .ensures), c .if1 .taken)
 
 returns-2 : tie.Need-returns-2
 unfolding rowAnswer
-returns-2 c = simp (sym (c .before .before .refuses-peak .ensures), c .before .if1 .left) (c .test-span .ensures)
+returns-2 c =
+    let tested = rw (c .before .before .least-taken .ensures, c .before .most-taken .ensures) at (c .test-span .ensures) in
+    simp (sym (c .before .before .before .before .refuses-peak .ensures), c .before .before .before .if1 .left) tested
 
 pub test-row-spec : {M : Type 1} → statement M
-test-row-spec = tie.close (tie.spec (λ c κs. search needs) returns (λ c κs. search needs) returns-2)
+test-row-spec = tie.close (tie.spec (λ c κs. search needs) returns (λ c κs. search needs) (λ c κs. search needs) (λ c κs. search needs) returns-2)

@@ -2,7 +2,7 @@
 use mathlib.Core.Path.{_∙_, ap}
 use native.Mathlib.Omega.{arith}
 use borrow.Author.Needs.{needs}
-use Rattle.position.specs.Position.{codePosition}
+use Rattle.position.specs.Code.{codePosition}
 use Rattle.pixel.specs.Conversion.{brightestPosition}
 use Rattle.content_light.proofs.walk.brightest_position.Statement.{statement}
 use Rattle.content_light.proofs.walk.brightest_position.Tie as tie
@@ -13,7 +13,8 @@ returns c =
     let r = c .before .before .before .before .sample-at .ensures .0 in
     let g = c .before .before .before .sample-at2 .ensures .0 in
     let b = c .before .before .sample-at3 .ensures .0 in
-    c .code-position .ensures ∙ ap codePosition (c .before .brightest-of .ensures ∙ rw (r, g, b))
+    let f = c .before .before .before .before .before .before .args .format in
+    c .code-position .ensures ∙ ap (codePosition f) (c .before .brightest-of .ensures ∙ rw (r, g, b))
 
 pub brightest-position-spec : {M : Type 1} → statement M
 brightest-position-spec =

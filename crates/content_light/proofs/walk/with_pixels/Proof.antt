@@ -1,16 +1,15 @@
 -- `content_light::walk::with_pixels` meets its contract: by the walk, or by the bound where no pixel takes over.
 use mathlib.Core.Path.{sym, ap, _∙_}
-use Prim.Native.Nat.{_/_}
 use native.Mathlib.Omega.{arith}
 use borrow.Author.Needs.{needs}
-use lib.ListN.{length}
 use Rattle.content_light.proofs.RecordLaws.{most-pixels, counting, only-counted}
+use Rattle.content_light.specs.Peak.{rowIn, pixelsOf}
 use Rattle.content_light.specs.Run.{mostPixels, takesOver}
 use Rattle.content_light.proofs.walk.with_pixels.Statement.{statement}
 use Rattle.content_light.proofs.walk.with_pixels.Tie as tie
 
 takes-over-requires : tie.Need-takes-over-requires
-takes-over-requires c κs = let s = c .before .before in (s .pre .1, (s .args .most, c .code-position .ensures))
+takes-over-requires c κs = let s = c .before .before in (s .pre .1, (s .args .format, s .args .most, c .code-position .ensures))
 
 returns-2 : tie.Need-returns-2
 unfolding mostPixels
@@ -19,8 +18,9 @@ returns-2 c =
     let t = c .before .before .before .before in
     let position = sym (t .before .code-position .ensures) in
     let alone = ap (takesOver (s .args .run)) position ∙ sym (t .takes-over .ensures) ∙ c .before .before .before .if1 .left in
+    let row = rowIn (s .args .format) (s .args .row .now) in
     ap (counting (s .args .run)) (c .smaller .ensures)
-    ∙ sym (only-counted (s .args .run) (s .args .row .now) (s .pre .3) (s .pre .0) alone (length (s .args .row .now) / 6) (omega arith))
+    ∙ sym (only-counted (s .args .run) row (s .pre .3) (s .pre .0) alone (pixelsOf row) (omega arith))
 
 pub with-pixels-spec : {M : Type 1} → statement M
 with-pixels-spec =

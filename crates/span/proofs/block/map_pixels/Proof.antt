@@ -1,6 +1,6 @@
 -- `span::block::map_pixels` meets its contract. The invariant: the first j pixels are mapped to the words, and the last pixel to its components.
 -- The measure is the number of pixels left.
-use mathlib.Core.Path.{_≡_, refl}
+use mathlib.Core.Path.{_≡_}
 use Prim.Native.Nat.{_+_, _*_, _-_, _≤_}
 use native.Mathlib.Omega.{arith}
 use lib.ListN.{length, length-take, length-drop, length-set}
@@ -22,18 +22,18 @@ abbrev μ-loop : tie.MeasureT-loop
 
 loop-holds : tie.Need-loop-holds Inv-loop μ-loop
 loop-holds c =
-    let start = c .before .before in
+    let start = c .before .before .before in
     let k = c .mapped-black .ensures in
     (omega arith, start .pre .4, mapped-none _ _ _, black-mapped (start .args .source) (k .0) (k .1) (k .2) (k .3) (k .4) (k .5))
 
 map-next-requires : tie.Need-map-next-requires Inv-loop μ-loop
 map-next-requires c κs =
-    let start = c .before .before .before .before .before in
+    let start = c .before .before .before .before .before .before in
     (start .pre .0, start .pre .1, simp (length-take, length-drop) (omega arith), c .before .before .loop .inv .3)
 
 loop-again : tie.Need-loop-again Inv-loop μ-loop
 loop-again c =
-    let src = c .before .before .before .before .before .before .before .before .before .args .src .now in
+    let src = c .before .before .before .before .before .before .before .before .before .before .args .src .now in
     let loop = c .before .before .before .before .before .before .loop in
     let next = c .before .before .before .map-next in
     let n = next .ensures in
@@ -43,7 +43,7 @@ loop-again c =
     (omega arith, rw stored (simp length-set (loop .inv .1)), rw stored (mapped-more _ _ _ _ (loop .inv .2) p (n .3) (omega arith)), n .3)
 
 returns : tie.Need-returns Inv-loop μ-loop
-returns c = let e : c .before .loop .j ≡ c .before .before .before .before .args .pixels = omega arith in rw e at (c .before .loop .inv .2)
+returns c = let e : c .before .loop .j ≡ c .before .before .before .before .before .args .pixels = omega arith in rw e at (c .before .loop .inv .2)
 
 pub map-pixels-spec : {M : Type 1} → statement M
 map-pixels-spec =

@@ -1,0 +1,5 @@
+pub mod FoundNumbers
+pub mod FullRangeTests
+pub mod FullRangeWalk
+pub mod FullRangePass
+pub mod FullRangeLights
