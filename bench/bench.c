@@ -5,7 +5,8 @@
  * All ways convert the same rows in the same run on one thread, in turns; a
  * way's time is the median of ROUNDS, in CPU time of this process. Every
  * buffer has been written to before, so that no page is new. Of a picture only
- * as many rows are taken, evenly spread, as keep the run short.
+ * as many rows are taken, evenly spread, as keep the run short. Pictures are of
+ * ten-bit narrow range; formats.c times the others.
  */
 #include "doubles.h"
 #include "pq_hlg.h"
@@ -26,10 +27,10 @@ static struct tables tables;
 static void convert(int way, const uint8_t *row, uint8_t *dst)
 {
     if (way == 0) {
-        if (pq_hlg_convert_row((uint64_t)peak, row, ROW, dst, ROW, 0, WIDTH))
+        if (pq_hlg_convert_row((uint64_t)peak, 0, row, ROW, dst, ROW, 0, WIDTH))
             stop("the row call refused a row");
     } else if (way == 1) {
-        if (pq_hlg_convert_row_ycbcr((uint64_t)peak, row, ROW, dst, ROW, 0, WIDTH))
+        if (pq_hlg_convert_row_ycbcr((uint64_t)peak, 0, row, ROW, dst, ROW, 0, WIDTH))
             stop("the Y'CbCr row call refused a row");
     } else if (way == LIBM) {
         convert_by_libm(peak, row, dst, WIDTH);

@@ -24,7 +24,7 @@ static struct tables tables;
 static void convert(int way, const uint8_t *row, uint8_t *dst, size_t pixels)
 {
     if (way == 0) {
-        if (pq_hlg_convert_row((uint64_t)peak, row, 6 * pixels, dst, 6 * pixels, 0, pixels))
+        if (pq_hlg_convert_row((uint64_t)peak, 0, row, 6 * pixels, dst, 6 * pixels, 0, pixels))
             stop("the row call refused a row");
     } else if (way == 1) {
         convert_by_libm(peak, row, dst, pixels);

@@ -33,13 +33,14 @@ LEAST, SPREAD, GUESS = 12_378_400_392_853_802, 2_000_000_000_000, 4_611_686_018_
 # what of the above, and of the numbers below, stands in which file
 CONSTANTS = {
     "span/src/block.rt": (96, 32, 64),
-    "span/src/hints.rt": (800, 33, 2**58, 64, 30, 32, 2**20, 2**38, 2**32, 610, 940, 420),
-    "span/src/mapping.rt": (1_000, THOUSAND),
+    "span/src/hints.rt": (800, 33, 2**58, 64, 30, 32, 2**20, 2**38, 2**32, 1_024, 546, 876, 484),
+    "span/src/mapping.rt": (4, 64, 940, 1_024),
     "span/src/near.rt": (2**17, 64, 65, 1_018, 1_020),
     "span/src/root.rt": (2_627, 6_780, 593, 47, WHOLE, SIXTH, LEAST, SPREAD, GUESS, 128, 38),
-    "span/src/lib.rt": (UNITS, BLOCK),
-    "eetf/src/lib.rt": (THOUSAND, THOUSAND_POSITION, LAST_POSITION, 674_504, 27),
-    "position/src/lib.rt": (64, 940, 256, LAST_POSITION),
+    "span/src/lib.rt": (BLOCK,),
+    "eetf/src/lib.rt": (1_000, THOUSAND_POSITION, 674_504, 27),
+    "position/src/lib.rt": (256,),
+    "quantity/src/lib.rt": (UNITS, THOUSAND, LAST_POSITION),
 }
 
 LIGHTS = light_table.light_table()
@@ -128,10 +129,10 @@ class Replay:
         line = self.hints[(30 - z) * 32 + n // 2**58]
         return (line + line % 2**20 * (n // 2**38)) % WORD // 2**32
 
-    def factor_hint(self, d, m2):
-        if not 610 <= d <= 940:
+    def factor_hint(self, m, m2):
+        if not 546 <= m // 1_024 <= 876:
             return 0
-        return (upper_word(m2 << 30, self.hints[420 + d]) + 1) % WORD
+        return (upper_word(m2 << 30, self.hints[484 + m // 1_024]) + 1) % WORD
 
     # codes.rt
 
@@ -145,11 +146,11 @@ class Replay:
 
     def mapped_lights(self, pixel):
         lights = tuple(map(light_of_code, pixel))
-        m1, d = max(lights), read_code(max(pixel))
-        m2 = bent_light(self.w, self.peak, m1, 1_024 * (d - 64))
+        m1, m = max(lights), 1_024 * (read_code(max(pixel)) - 64)
+        m2 = bent_light(self.w, self.peak, m1, m)
         if m1 == m2:
             return lights
-        factor = self.factor_hint(d, m2)
+        factor = self.factor_hint(m, m2)
         return tuple(self.scaled(c, m1, m2, factor) for c in lights)
 
     # root.rt

@@ -7,6 +7,7 @@ WAYS = ("row_call", "ycbcr_row_call", "libm", "tables", "copy")
 PICTURES = ("gradients", "blocks", "film", "random")
 PEAKS = (1_000, 4_000, 10_000)
 PIXELS = (0, 1, 16, 64, 256)
+FORMATS = ("ten_narrow", "twelve_narrow", "ten_full", "twelve_full")
 
 
 class Result(NamedTuple):
@@ -15,11 +16,12 @@ class Result(NamedTuple):
     rows: dict                 # (peak, picture): rows that were timed
     calls: dict                # pixels: ns of one call by row_call, libm and tables
     filling: int               # ns of filling the tables of C
+    formats: dict              # picture: {format: (ns a pixel of row_call, ratio to that in ten-bit narrow range)}
 
 
 def read(text):
     """All figures of a run; one that lacks some is refused."""
-    times, rows, calls, filling, place = {}, {}, {}, None, None
+    times, rows, calls, filling, formats, place = {}, {}, {}, None, {}, None
     for line in text.splitlines():
         if found := re.match(r"peak (\d+) picture (\w+)\.rgb rows (\d+)", line):
             place = int(found[1]), found[2]
@@ -28,12 +30,18 @@ def read(text):
             times[place][found[1]] = float(found[2]), float(found[3])
         elif found := re.match(r"pixels (\d+): row_call (\d+) ns/call, libm (\d+), tables (\d+)", line):
             calls[int(found[1])] = tuple(map(int, found.groups()[1:]))
+        elif found := re.match(r"formats peak \d+ picture (\w+)\.rgb", line):
+            place = found[1]
+            formats[place] = {}
+        elif found := re.match(r"(\w+) ([\d.]+) ns/pixel, ([\d.]+) of ten_narrow", line):
+            formats[place][found[1]] = float(found[2]), float(found[3])
         elif found := re.match(r"tables of C filled: (\d+) ns", line):
             filling = int(found[1])
     whole = all(set(times.get((peak, picture), ())) == set(WAYS) for peak in PEAKS for picture in PICTURES)
+    whole &= all(set(formats.get(picture, ())) == set(FORMATS) for picture in PICTURES)
     if not whole or set(calls) != set(PIXELS) or filling is None:
         raise SystemExit("the benchmark did not print all its figures")
-    return Result(times, rows, calls, filling)
+    return Result(times, rows, calls, filling, formats)
 
 
 def three_digits(number):

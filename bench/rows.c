@@ -22,7 +22,7 @@ int main(int count, char **words)
     uint8_t *picture = read_picture(words[3]), *dst = touched_bytes();
     double start = now();
     for (size_t at = 0; at < pixels; at += width)
-        if (pq_hlg_convert_row(peak, picture + 6 * at, 6 * width, dst + 6 * at, 6 * width, 0, width))
+        if (pq_hlg_convert_row(peak, 0, picture + 6 * at, 6 * width, dst + 6 * at, 6 * width, 0, width))
             stop("the row call refused a row");
     printf("%.3f\n", 1e9 * (now() - start) / (double)pixels);
     free(picture);

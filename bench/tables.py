@@ -6,7 +6,7 @@
 import sys
 from pathlib import Path
 
-from .result import PEAKS, PICTURES, PIXELS, WAYS, read, three_digits
+from .result import FORMATS, PEAKS, PICTURES, PIXELS, WAYS, read, three_digits
 
 
 def table(words, head, rows):
@@ -32,6 +32,8 @@ def main(path):
           ["pixels", "`row_call`", "`libm`", "`tables`"],
           [[str(pixels), *(f"{ns:,} ({three_digits(ns / result.calls[pixels][1])})" for ns in result.calls[pixels])]
            for pixels in PIXELS])
+    table("ns a pixel of `row_call` under a peak of 4,000 (and times ten-bit narrow range)", ["", *PICTURES],
+          [[f"`{name}`", *("{} ({})".format(*map(three_digits, result.formats[picture][name])) for picture in PICTURES)] for name in FORMATS])
 
 
 if __name__ == "__main__":
