@@ -148,6 +148,17 @@ pub at-most-five : (card : List ℕ) → cardBytes card ≤ 5
 unfolding cardBytes
 at-most-five card = omega arith
 
+-- What a field leaves of the next choice: its own value where it is known.
+abbrev pub choice : Bool → ℕ → ℕ → ℕ
+choice standing value next = cond (known standing value) value next
+
+-- The peak goes by bit 2 and by what each of the two fields leaves of a choice, in whatever order these are asked.
+pub same-choices : (x y : List ℕ) → stands 2 x ≡ stands 2 y
+    → ((next : ℕ) → choice (stands 0 x) (maxCLL x) next ≡ choice (stands 0 y) (maxCLL y) next)
+    → ((next : ℕ) → choice (stands 1 x) (masteringPeak x) next ≡ choice (stands 1 y) (masteringPeak y) next) → peak x ≡ peak y
+unfolding peak
+same-choices x y unconstrained first second = rw (unconstrained, first _, second _)
+
 -- What reads a field only where its bit stands.
 where-standing : {A : Type 0} (f : Bool → ℕ → A) (standing : Bool) {x y : ℕ} → (standing ≡ true → x ≡ y) → f false x ≡ f false y
     → f standing x ≡ f standing y
@@ -202,14 +213,15 @@ module _ (card more : List ℕ) where
         let second = where-standing refused (stands 1 card) same-mastering-peak refl in
         rw (← first, ← second) (rw (same-map some-byte))
 
+    same-bit : (i : ℕ) → stands i (card ++ more) ≡ stands i card
+    same-bit i = rw (same-map some-byte)
+
     same-peak : peak (card ++ more) ≡ peak card
-    unfolding peak known
+    unfolding known
     same-peak =
-        let last : ℕ = cond (stands 2 card) 10000 4000 in
-        let mastering : ℕ = cond (known (stands 1 card) (masteringPeak card)) (masteringPeak card) last in
-        let second = where-standing (λ standing value. cond (known standing value) value last) (stands 1 card) same-mastering-peak refl in
-        let first = where-standing (λ standing value. cond (known standing value) value mastering) (stands 0 card) same-max-cll refl in
-        rw (← first, ← second) (rw (same-map some-byte))
+        same-choices (card ++ more) card (same-bit 2)
+        (λ next. rw (same-bit 0) (where-standing (λ standing value. choice standing value next) (stands 0 card) same-max-cll refl))
+        (λ next. rw (same-bit 1) (where-standing (λ standing value. choice standing value next) (stands 1 card) same-mastering-peak refl))
 
   -- A card that wants no byte answers the same whatever comes after it.
   pub settled : cardWants card ≡ 0 → cardAnswer (card ++ more) ≡ cardAnswer card

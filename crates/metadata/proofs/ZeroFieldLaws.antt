@@ -1,7 +1,7 @@
 -- A field of 0 counts for nothing, from the definitions of a card: both calls answer as for the card without it, whose bit is clear and whose two bytes
 -- are gone, be it accepted, refused or cut short.
 use Prim.Native.Nat.{ℕ, _+_, _*_, _/_, _%_, _<_}
-use mathlib.Core.Bool.{Bool, true, false, cond, _||_, _&&_}
+use mathlib.Core.Bool.{Bool, true, false, _||_, _&&_}
 use mathlib.Core.List.{List, [], _∷_}
 use mathlib.Core.Path.{_≡_, refl, sym, _∙_}
 use native.Mathlib.Omega.{arith}
@@ -9,26 +9,29 @@ use lib.ListN.{length, drop, drop-of-length-le}
 use lib.Dec.{ltb, eqb}
 use borrow.Author.Tests.{ne-eqb, lt-ltb, le-ltb, ltb-true, ltb-false}
 use Rattle.big_endian.specs.BigEndian.{numberAt}
-use Rattle.metadata.specs.Card.{bit, field, cardBytes, unknownBit, known, outOfRange, fieldOutOfRange, peak, format}
+use Rattle.metadata.specs.Card.{bit, stands, field, maxCLL, masteringPeak, cardBytes, unknownBit, known, outOfRange, fieldOutOfRange, format}
 use Rattle.metadata.specs.Card.{cardAnswer, endAfter, following}
 use Rattle.metadata.specs.declared.SourceAnswer.{SourceAnswer}
 use Rattle.metadata.specs.declared.SourceAnswer.the-variants.{Declared, Refused}
+use Rattle.metadata.proofs.CardLaws.{choice, same-choices}
 
 -- The card's two calls answer alike.
 abbrev pub Alike : List ℕ → List ℕ → Type 0
 Alike x y = (cardAnswer x ≡ cardAnswer y) × (following x ≡ following y)
 
--- What a card's two lowest bits, as a number p below 4, make of it: its length, whether a field is out of range, and its peak, if that is `other` where
--- neither field is known.
+-- What a card's two lowest bits, as a number p below 4, make of it: its length, whether a field is out of range, what each field leaves of a choice.
 abbrev bytesBy : ℕ → ℕ
 bytesBy p = 1 + 2 * (p % 2 + p / 2)
 
 abbrev outsideBy : ℕ → List ℕ → Bool
 outsideBy p card = (eqb (p % 2) 1 && outOfRange (field 0 card)) || (eqb (p / 2) 1 && outOfRange (field (p % 2) card))
 
-abbrev peakBy : ℕ → ℕ → List ℕ → ℕ
-peakBy other p card =
-    cond (known (eqb (p % 2) 1) (field 0 card)) (field 0 card) (cond (known (eqb (p / 2) 1) (field (p % 2) card)) (field (p % 2) card) other)
+-- what MaxCLL and the mastering peak leave of the next choice
+abbrev maxCLLBy : ℕ → List ℕ → ℕ → ℕ
+maxCLLBy p card = choice (eqb (p % 2) 1) (field 0 card)
+
+abbrev masteringPeakBy : ℕ → List ℕ → ℕ → ℕ
+masteringPeakBy p card = choice (eqb (p / 2) 1) (field (p % 2) card)
 
 -- A card whose bit map is 4c + p, by p.
 module _ (c p : ℕ) (h : p < 4) (xs : List ℕ) where
@@ -61,9 +64,14 @@ module _ (c p : ℕ) (h : p < 4) (xs : List ℕ) where
   unfolding fieldOutOfRange
   outside-by = rw (zero-bit, one-bit)
 
-  peak-by : peak ((4 * c + p) ∷ xs) ≡ peakBy (cond (eqb (c % 2) 1) 10000 4000) p ((4 * c + p) ∷ xs)
-  unfolding peak
-  peak-by = let two-bit : bit 2 ((4 * c + p) ∷ xs) ≡ c % 2 = omega arith in rw (zero-bit, one-bit, two-bit)
+  two-bit : bit 2 ((4 * c + p) ∷ xs) ≡ c % 2
+  two-bit = omega arith
+
+  max-cll-by : (next : ℕ) → choice (stands 0 ((4 * c + p) ∷ xs)) (maxCLL ((4 * c + p) ∷ xs)) next ≡ maxCLLBy p ((4 * c + p) ∷ xs) next
+  max-cll-by next = rw zero-bit
+
+  mastering-peak-by : (next : ℕ) → choice (stands 1 ((4 * c + p) ∷ xs)) (masteringPeak ((4 * c + p) ∷ xs)) next ≡ masteringPeakBy p ((4 * c + p) ∷ xs) next
+  mastering-peak-by next = rw (zero-bit, one-bit)
 
 same-order : (m n k l : ℕ) → m ≡ k + 2 → n ≡ l + 2 → ltb m n ≡ ltb k l
 same-order m n k l e f = go (ltb k l) refl
@@ -76,10 +84,11 @@ same-order m n k l e f = go (ltb k l) refl
 -- in the bits above.
 same-answers : (c p q : ℕ) (xs ys : List ℕ) → p < 4 → q < 4 → length xs ≡ length ys + 2 → bytesBy p ≡ bytesBy q + 2
     → outsideBy p ((4 * c + p) ∷ xs) ≡ outsideBy q ((4 * c + q) ∷ ys)
-    → ((other : ℕ) → peakBy other p ((4 * c + p) ∷ xs) ≡ peakBy other q ((4 * c + q) ∷ ys))
+    → ((next : ℕ) → maxCLLBy p ((4 * c + p) ∷ xs) next ≡ maxCLLBy q ((4 * c + q) ∷ ys) next)
+    → ((next : ℕ) → masteringPeakBy p ((4 * c + p) ∷ xs) next ≡ masteringPeakBy q ((4 * c + q) ∷ ys) next)
     → drop (bytesBy p) ((4 * c + p) ∷ xs) ≡ drop (bytesBy q) ((4 * c + q) ∷ ys) → Alike ((4 * c + p) ∷ xs) ((4 * c + q) ∷ ys)
 unfolding cardAnswer following
-same-answers c p q xs ys g h longer bytes outside peaks rest = (same, rw same (go (cardAnswer y)))
+same-answers c p q xs ys g h longer bytes outside first second rest = (same, rw same (go (cardAnswer y)))
   where
     x : List ℕ
     x = (4 * c + p) ∷ xs
@@ -92,7 +101,10 @@ same-answers c p q xs ys g h longer bytes outside peaks rest = (same, rw same (g
         let unknown = unknown-by c p g xs ∙ sym (unknown-by c q h ys) in
         let cut = same-order (length x) (cardBytes x) (length y) (cardBytes y) (omega arith) (omega (arith, bytes-by c p g xs, bytes-by c q h ys)) in
         let fields = outside-by c p g xs ∙ outside ∙ sym (outside-by c q h ys) in
-        let chosen = peak-by c p g xs ∙ peaks _ ∙ sym (peak-by c q h ys) in
+        let chosen =
+        same-choices x y (rw (two-bit c p g xs, two-bit c q h ys))
+        (λ next. max-cll-by c p g xs next ∙ first next ∙ sym (max-cll-by c q h ys next))
+        (λ next. mastering-peak-by c p g xs next ∙ second next ∙ sym (mastering-peak-by c q h ys next)) in
         let coded = format-by c p g xs ∙ sym (format-by c q h ys) in
         simp (ne-eqb (length x) 0 (omega arith), ne-eqb (length y) 0 (omega arith), unknown, cut, fields, chosen, coded)
 
@@ -108,8 +120,8 @@ pub zero-field : (c high low : ℕ) (rest : List ℕ)
     × Alike ((4 * c + 3) ∷ high ∷ low ∷ 0 ∷ 0 ∷ rest) ((4 * c + 1) ∷ high ∷ low ∷ rest)
 unfolding known outOfRange numberAt
 zero-field c high low rest = (
-  same-answers c 1 0 (0 ∷ 0 ∷ rest) rest (omega arith) (omega arith) (omega arith) refl refl (λ other. refl) refl,
-  same-answers c 3 2 (0 ∷ 0 ∷ rest) rest (omega arith) (omega arith) (omega arith) refl refl (λ other. refl) refl,
-  same-answers c 2 0 (0 ∷ 0 ∷ rest) rest (omega arith) (omega arith) (omega arith) refl refl (λ other. refl) refl,
-  same-answers c 3 1 (high ∷ low ∷ 0 ∷ 0 ∷ rest) (high ∷ low ∷ rest) (omega arith) (omega arith) (omega arith) refl refl (λ other. refl) refl,
+  same-answers c 1 0 (0 ∷ 0 ∷ rest) rest (omega arith) (omega arith) (omega arith) refl refl (λ next. refl) (λ next. refl) refl,
+  same-answers c 3 2 (0 ∷ 0 ∷ rest) rest (omega arith) (omega arith) (omega arith) refl refl (λ next. refl) (λ next. refl) refl,
+  same-answers c 2 0 (0 ∷ 0 ∷ rest) rest (omega arith) (omega arith) (omega arith) refl refl (λ next. refl) (λ next. refl) refl,
+  same-answers c 3 1 (high ∷ low ∷ 0 ∷ 0 ∷ rest) (high ∷ low ∷ rest) (omega arith) (omega arith) (omega arith) refl refl (λ next. refl) (λ next. refl) refl,
 )
