@@ -76,6 +76,8 @@ def refused_cards():
     yield "mastering_peak_10001_beside_maxcll", b"\x03" + word(1_000) + word(10_001) + good
     yield "mastering_peak_10001_beside_maxcll_zero", b"\x03" + word(0) + word(10_001) + good
     yield "maxcll_10001_beside_mastering_peak_zero", b"\x03" + word(10_001) + word(0) + good
+    yield "mastering_peak_10001_unconstrained", b"\x06" + word(10_001) + good
+    yield "unconstrained_card_cut_in_mastering_peak", b"\x06\x0f"
 
 
 def refused_widths():
@@ -161,6 +163,13 @@ def named_peaks():
         ("mastering_peak_zero_unconstrained", b"\x06" + word(0)),
         ("maxcll_zero_mastering_peak_zero_unconstrained", b"\x07" + word(0) + word(0)),
         ("maxcll_zero_mastering_peak_2000_unconstrained", b"\x07" + word(0) + word(2_000)),
+        # request 07: unconstrained decides before the mastering peak
+        ("mastering_peak_1_unconstrained", b"\x06" + word(1)),
+        ("mastering_peak_4000_unconstrained", b"\x06" + word(4_000)),
+        ("mastering_peak_9999_unconstrained", b"\x06" + word(9_999)),
+        ("mastering_peak_10000_unconstrained", b"\x06" + word(10_000)),
+        ("maxcll_zero_mastering_peak_4000_unconstrained", b"\x07" + word(0) + word(4_000)),
+        ("maxcll_1000_mastering_peak_4000_unconstrained", b"\x07" + word(1_000) + word(4_000)),
     )
     for name, card in cards:
         yield "peak_" + name, title(card, 3, pixels)
@@ -227,7 +236,7 @@ def cards():
         yield data[:8]
     for bits in range(32):
         for first, second in ((1, 10_000), (10_000, 1), (0, 1), (1, 0), (10_001, 1), (1, 10_001), (256, 257),
-                              (0, 0), (0, 10_000), (10_000, 0), (0, 10_001), (10_001, 0)):
+                              (0, 0), (0, 10_000), (10_000, 0), (0, 10_001), (10_001, 0), (0, 9_999), (9_999, 0)):
             yield bytes([bits]) + word(first) + word(second)
         for length in range(6):
             yield (bytes([bits]) + word(1_234) + word(5_678))[:length]

@@ -1,4 +1,4 @@
-"""Every number that document 01 and requests 01 to 06 name, and the laws between their parts.
+"""Every number that document 01 and requests 01 to 07 name, and the laws between their parts.
 
     python3 -m tests.reference.check
 
@@ -349,7 +349,7 @@ def cards():
     answers = (
         ("", (1, 0)), ("20", (2, 0)), ("80", (2, 0)), ("21", (2, 0)), ("01", (3, 0)), ("0103", (3, 0)), ("0303e8", (3, 0)), ("032711", (3, 0)),
         ("012711", (4, 0)), ("0303e82711", (4, 0)), ("0103e8", 1_000), ("020fa0", 4_000), ("0303e80fa0", 1_000), ("04", 10_000),
-        ("060fa0", 4_000), ("0507d0", 2_000), ("0703e80fa0", 1_000), ("00", 4_000), ("010001", 1), ("012710", 10_000))
+        ("060fa0", 10_000), ("0507d0", 2_000), ("0703e80fa0", 1_000), ("00", 4_000), ("010001", 1), ("012710", 10_000))
     for text, answer in answers:
         yield f"card {text or 'empty'}: {answer}", declared(text) == answer
     yield "what follows a card", metadata.after_metadata(bytes.fromhex("0303e80fa0c0ffee")) == b"\xc0\xff\xee"
@@ -372,6 +372,34 @@ def zero_fields():
         yield f"{name}, 0 or not there", all(
             outcome(metadata.peak_of_metadata, zero) == outcome(metadata.peak_of_metadata, without)
             and metadata.after_metadata(zero) == metadata.after_metadata(without) for zero, without in pairs)
+
+
+def unconstrained_first():
+    """Request 07: bit 2 decides before the mastering peak; by every bit map, no other answer than those named is new."""
+    answers = (
+        ("060fa0", 10_000), ("062710", 10_000), ("060001", 10_000), ("06270f", 10_000), ("0700000fa0", 10_000), ("0703e80fa0", 1_000),
+        ("0700010fa0", 1), ("062711", (4, 0)), ("060f", (3, 0)), ("0700000f", (3, 0)), ("260fa0", (2, 0)), ("020fa0", 4_000))
+    for text, answer in answers:
+        yield f"card {text}: {answer}", declared(text) == answer
+
+    def former(card):
+        """The peak by the order of before."""
+        fields = {bit: value for bit, value in metadata.card_fields(card).items() if value != 0}
+        otherwise = 10_000 if card[0] & metadata.UNCONSTRAINED else 4_000
+        return fields.get(metadata.MAXCLL, fields.get(metadata.MASTERING_PEAK, otherwise))
+
+    def named(card):
+        """Whether the request names the card as one whose answer changes."""
+        if refusal(metadata.card_fields, card) or card[0] & 6 != 6:
+            return False
+        first, second = int.from_bytes(card[1:3], "big"), int.from_bytes(card[3:5], "big")
+        return first == 0 and 1 <= second <= 9_999 if card[0] & 1 else 1 <= first <= 9_999
+    values = [word(value) for value in (0, 1, 1_000, 4_000, 9_999, 10_000, 10_001, 65_535)]
+    whole = [bytes([bits]) + first + second for bits in range(256) for first in values for second in values]
+    every = [*whole, *(card[:length] for card in whole for length in range(5))]
+    changed = [card for card in every if outcome(metadata.peak_of_metadata, card) != outcome(former, card)]
+    yield "the answers that change are those named", changed and changed == [card for card in every if named(card)]
+    yield "they are 10,000 now", all(metadata.peak_of_metadata(card) == 10_000 for card in changed)
 
 
 def rows():
@@ -922,8 +950,8 @@ def traps():
 
 
 LAWS = (light_table, nearest_light, light_of_codes, positions, spline_is_hermite, highlight_curve, published_patches, hlg_steps,
-        hlg_code, shorter_products, published_constants, published_table, corner_pixels, other_examples, cards, zero_fields, rows, program_answers,
-        measured_numbers, measured_refusals, measured_lists, measured_codes, measured_records, measure_answers,
+        hlg_code, shorter_products, published_constants, published_table, corner_pixels, other_examples, cards, zero_fields, unconstrained_first,
+        rows, program_answers, measured_numbers, measured_refusals, measured_lists, measured_codes, measured_records, measure_answers,
         formats, order_of_codes, format_codes, format_limits, unread_bits, format_cards, format_titles, measured_formats, mixed_lists,
         published_ycbcr, rounding_away, ycbcr_of_codes, halves_of_luma, halves_of_chroma, code_refusals, ycbcr_rows, distance, greys, traps)
 

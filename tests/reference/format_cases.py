@@ -64,6 +64,7 @@ def format_cards():
         yield f"{name}_maxcll_zero", bytes([bits | 1]) + word(0) + good
         yield f"{name}_maxcll_1200_mastering_peak_2000_unconstrained", bytes([bits | 7]) + word(1_200) + word(2_000) + good
         yield f"{name}_maxcll_zero_mastering_peak_1200", bytes([bits | 3]) + word(0) + word(1_200) + good
+        yield f"{name}_mastering_peak_1200_unconstrained", bytes([bits | 6]) + word(1_200) + good
         yield f"{name}_card_cut_in_maxcll", bytes([bits | 1, 3])
         yield f"{name}_mastering_peak_10001", bytes([bits | 2]) + word(10_001) + good
         yield f"width_missing_after_{name}", bytes([bits])

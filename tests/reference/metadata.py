@@ -1,4 +1,4 @@
-"""Document 01, "Cards, rows, program", with requests 02 and 06: the card that opens a title and declares its source."""
+"""Document 01, "Cards, rows, program", with requests 02, 06 and 07: the card that opens a title and declares its source."""
 
 from typing import NamedTuple
 
@@ -51,9 +51,9 @@ def peak_of_metadata(card):
     fields = {bit: value for bit, value in card_fields(card).items() if value != 0}
     if MAXCLL in fields:
         return fields[MAXCLL]
-    if MASTERING_PEAK in fields:
-        return fields[MASTERING_PEAK]
-    return PEAK_TOP if card[0] & UNCONSTRAINED else DEFAULT_PEAK
+    if card[0] & UNCONSTRAINED:
+        return PEAK_TOP
+    return fields.get(MASTERING_PEAK, DEFAULT_PEAK)
 
 
 def source_of_metadata(card):

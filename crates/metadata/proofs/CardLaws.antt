@@ -104,7 +104,7 @@ wants-none card {source} h = go (outcome card)
     go (outside u l f e w) = w
     go (taken u l f e w) = w
 
-or-false : (a b : Bool) → (a || b) ≡ false → (a ≡ false) × (b ≡ false)
+pub or-false : (a b : Bool) → (a || b) ≡ false → (a ≡ false) × (b ≡ false)
 or-false true b h = absurd (true≢false h)
 or-false false b h = (refl, h)
 
@@ -112,7 +112,7 @@ or-false false b h = (refl, h)
 abbrev InRange : ℕ → Type 0
 InRange v = (1 ≤ v) × (v ≤ 10000)
 
-known-in-range : (standing : Bool) (v : ℕ) → (standing && outOfRange v) ≡ false → known standing v ≡ true → InRange v
+pub known-in-range : (standing : Bool) (v : ℕ) → (standing && outOfRange v) ≡ false → known standing v ≡ true → InRange v
 unfolding outOfRange known
 known-in-range true v h e =
     let low = eqb-false v 0 (not-true _ e) in
@@ -130,9 +130,9 @@ unfolding peak fieldOutOfRange
 peak-in-range card h =
     let a = accepted card h in
     let fields = or-false (stands 0 card && outOfRange (maxCLL card)) _ (a .1) in
-    let unconstrained = chosen {b = stands 2 card} {x = 10000} {next = 4000} (λ e. omega arith) (omega arith) in
-    let mastering = chosen (known-in-range (stands 1 card) (masteringPeak card) (fields .1)) unconstrained in
-    rw (a .2) (chosen (known-in-range (stands 0 card) (maxCLL card) (fields .0)) mastering)
+    let mastering = chosen {next = 4000} (known-in-range (stands 1 card) (masteringPeak card) (fields .1)) (omega arith) in
+    let unconstrained = chosen {b = stands 2 card} {x = 10000} (λ e. omega arith) mastering in
+    rw (a .2) (chosen (known-in-range (stands 0 card) (maxCLL card) (fields .0)) unconstrained)
 
 -- What follows an accepted card begins after its bytes.
 pub after-card : (card : List ℕ) {source : Source} → cardAnswer card ≡ Declared source → following card ≡ drop (cardBytes card) card

@@ -1,2 +1,3 @@
 pub mod CardLaws
 pub mod ZeroFieldLaws
+pub mod PeakOrderLaws

@@ -1,5 +1,5 @@
 -- The card that precedes a picture: scope (document 01), "Cards, rows, program", and refusals 1 to 4 of "What stops a call"; request 02, fields of 0;
--- request 06, depth and range.
+-- request 06, depth and range; request 07, unconstrained before the mastering peak.
 -- A list of bytes opens with the card, and other bytes may follow. Fields and peaks are in whole cd/m2, lengths in bytes.
 use Prim.Native.Nat.{ℕ, _+_, _*_, _-_, _/_, _%_, _^_}
 use mathlib.Core.Bool.{Bool, cond, not, _||_, _&&_}
@@ -58,12 +58,13 @@ fieldOutOfRange card =
 unfoldable pub known : Bool → ℕ → Bool
 known standing value = standing && not (eqb value 0)
 
--- scope, Cards: the peak of a card that nothing refuses, by the first field that is known; 4,000 where the card names none
+-- scope, Cards, in the order of request 07: the peak of a card that nothing refuses. MaxCLL where it is known, else 10,000 for an unconstrained title, else
+-- the mastering peak where that is known, else 4,000.
 unfoldable pub peak : List ℕ → ℕ
 peak card =
     cond (known (stands 0 card) (maxCLL card)) (maxCLL card)
-    (cond (known (stands 1 card) (masteringPeak card)) (masteringPeak card)
     (cond (stands 2 card) 10000
+    (cond (known (stands 1 card) (masteringPeak card)) (masteringPeak card)
     4000))
 
 -- request 06: bits 3 and 4 of the bit map mean twelve bits and full range, and neither has a field

@@ -136,9 +136,9 @@ fn mastering_peak(card: &[u8]) -> u64
 fn peak_of_fields(card: &[u8]) -> u64
     ensures { λ r. ⌜ r ≡ peak (now (card .entry)) ⌝ }
 {
-    let unconstrained = first_standing(bit_of(card, 4), 10000, 4000);
-    let mastered = first_known(bit_of(card, 2), mastering_peak(card), unconstrained);
-    first_known(bit_of(card, 1), number_at(card, 1), mastered)
+    let mastered = first_known(bit_of(card, 2), mastering_peak(card), 4000);
+    let unconstrained = first_standing(bit_of(card, 4), 10000, mastered);
+    first_known(bit_of(card, 1), number_at(card, 1), unconstrained)
 }
 
 // The value of a field where it is known, else the next choice: 0 stands for a value that nobody measured.
