@@ -4,11 +4,11 @@
 ghost use Prim.Native.Nat.{_≤_};
 use libc::STDIN_FILENO;
 use libc::STDOUT_FILENO;
-use pq_hlg::PixelAnswer;
 use pq_hlg::convert_codes;
 use pq_hlg::convert_pixel;
 use quantity::Source;
 use quantity::sample_format::format_of;
+use rows::PixelAnswer;
 
 fn widen(byte: u8) -> u64 {
     byte as u64

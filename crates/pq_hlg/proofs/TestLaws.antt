@@ -1,22 +1,21 @@
 -- What a passed test says, of a peak, of an RGB code and of the row call's answer, and the destination after each answer.
-use mathlib.Core.Path.{_≡_, sym, _∙_, ap}
+use mathlib.Core.Path.{_≡_, sym, _∙_}
 use mathlib.Core.Bool.{false}
 use mathlib.Core.List.{List, _++_}
 use Prim.Native.Nat.{ℕ, _*_, _-_, _≤_}
 use native.Mathlib.Omega.{arith}
 use lib.Dec.{eqb, ltb}
-use lib.ListN.{length, take, drop, length-take, length-drop}
+use lib.ListN.{length, take, drop}
 use borrow.Author.Tests.{ltb-false, eqb-false}
 use Rattle.quantity.specs.declared.Source.{Source}
 use Rattle.quantity.specs.Component.{Pixel}
 use Rattle.eetf.specs.Curve.{peakRead}
 use Rattle.rows.specs.declared.RowAnswer.{RowAnswer}
 use Rattle.rows.specs.declared.RowAnswer.the-variants.{Converted, Refused}
-use Rattle.rows.specs.Row.{spanBytes}
+use Rattle.rows.specs.Row.{convertedInto}
 use Rattle.rows.specs.Answer.{outside, bytesAfter, hostNumber}
 use Rattle.rows.proofs.AnswerLaws.{neither, either, refused-not-converted, Accepted, accepted, host-number-fits, refused-after, converted-after}
-use Rattle.span.specs.Span.{sourceRead, hlgRead, convertedInto}
-use Rattle.span.proofs.SpanLaws.{filled}
+use Rattle.span.specs.Span.{sourceRead, hlgRead}
 use Rattle.pq_hlg.specs.Pixel.{peakRefused, sampleRefused, codeRefused}
 use Rattle.pq_hlg.specs.Row.{rowAnswer}
 
@@ -72,12 +71,4 @@ module _ (f : Source → Pixel → Pixel) (source : Source) (row dst : List ℕ)
       ≡ bytesAfter (rowAnswer source row (length dst) first end) (f source) row dst first end
   row-converted ys to e y at-end =
       let tested = row-accepted source row (length dst) first end e in
-      let k = tested .1 in
-      let src = take (length row - 6 * first) (drop (6 * first) row) in
-      let part = take (to - 6 * first) (drop (6 * first) dst) in
-      let room : length part ≡ 6 * (end - first) = simp (length-take, length-drop) (omega (arith, k .same, k .within)) in
-      let enough : 6 * (end - first) ≤ length src = simp (length-take, length-drop) (omega (arith, k .within)) in
-      let read = ap (λ (s : Source). spanBytes (f s) src 0 (end - first)) (source-read source (tested .0)) in
-      ap (λ (n : ℕ). take (6 * first) dst ++ (ys ++ drop (n - 6 * first) (drop (6 * first) dst))) at-end
-      ∙ converted-after (f source) row dst first end ys e (k .ordered) (k .within)
-      (y ∙ filled (f (sourceRead source)) src part (end - first) room enough ∙ read)
+      converted-after (f source) row dst first end ys to e (tested .1) at-end (rw (source-read source (tested .0)) at y)

@@ -9,10 +9,10 @@ use Rattle.quantity.specs.SampleFormat.{leastTaken, mostTaken}
 use Rattle.quantity.specs.Component.{red, green, blue, Pixel}
 use Rattle.pixel.specs.Conversion.{code}
 use Rattle.distance.specs.Demand.{Voted}
+use Rattle.rows.specs.declared.PixelAnswer.{PixelAnswer}
+use Rattle.rows.specs.declared.PixelAnswer.the-variants.{Codes, Refused}
 use Rattle.rows.specs.Answer.{outside}
 use Rattle.ycbcr.specs.YCbCr.{luma, cb, cr}
-use Rattle.pq_hlg.specs.declared.PixelAnswer.{PixelAnswer}
-use Rattle.pq_hlg.specs.declared.PixelAnswer.the-variants.{Codes, Refused}
 
 -- refusal 5: a peak of 0 or above 10,000
 unfoldable pub peakRefused : ℕ → Bool

@@ -1,7 +1,6 @@
 // The engine's calls: one pixel, its Y'CbCr, a span of a row as RGB or as Y'CbCr, and the row calls for a host in C. Samples are PQ code values of the
 // source's depth and range in, and HLG ones of ten bits and narrow range out; a peak is in whole cd/m2.
 ghost use mathlib.Core.Path.{_≡_};
-ghost use Prim.Native.Nat.{_≤_};
 ghost use lib.ListN.{length};
 ghost use Rattle.quantity.specs.Component.{pixel};
 ghost use Rattle.rows.specs.Answer.{hostNumber};
@@ -13,7 +12,9 @@ use quantity::sample_format::SampleFormat;
 use quantity::sample_format::format_of;
 use quantity::sample_format::least_taken;
 use quantity::sample_format::most_taken;
+use rows::PixelAnswer;
 use rows::RowAnswer;
+use rows::host_number;
 use rows::is_outside;
 use rows::test_span;
 use span::convert_span;
@@ -25,12 +26,6 @@ use ycbcr::SignalFormat;
 const LEAST_CODE: u64 = 64;
 
 const MOST_CODE: u64 = 1019;
-
-// The three codes of a pixel, or a refusal: its number and its place.
-pub enum PixelAnswer {
-    Codes(u64, u64, u64),
-    Refused(u64, u64),
-}
 
 // The HLG codes of one pixel. Refuses 5, then 9; its place is 0 for red, 1 for green, 2 for blue.
 pub fn convert_pixel(source: Source, red: u64, green: u64, blue: u64) -> PixelAnswer
@@ -162,17 +157,6 @@ fn deliver_row(
     let to = 6 * end;
     convert_span(source, format, &row[from..], &mut dst[from..to]);
     RowAnswer::Converted
-}
-
-// The number for a host, of the answers there are: no refused sample lies past the longest row.
-fn host_number(answer: RowAnswer) -> u64
-    requires { ⌜ hostNumber answer ≤ 6291456 ⌝ }
-    ensures { λ r. ⌜ r ≡ hostNumber answer ⌝ }
-{
-    match answer {
-        RowAnswer::Converted => 0,
-        RowAnswer::Refused(number, place) => number + 256 * place,
-    }
 }
 
 // The tests of a row call, in order, on a destination of so many bytes.

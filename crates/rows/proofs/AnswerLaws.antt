@@ -1,18 +1,20 @@
 -- Laws of the tests of a span, for any test of a sample: what a passed test says, and what a destination and a host's number are after each answer.
-use mathlib.Core.Path.{_≡_, refl, sym, _∙_, ap, subst}
+use mathlib.Core.Path.{_≡_, refl, sym, _∙_, ap}
 use mathlib.Core.Bool.{Bool, true, false, cond, not, _||_}
 use mathlib.Core.List.{List, _++_}
-use Prim.Native.Nat.{ℕ, suc, _+_, _*_, _-_, _/_, _%_, _≤_, _<_}
+use Prim.Native.Nat.{ℕ, suc, _+_, _*_, _-_, _/_, _%_, _^_, _≤_, _<_}
+use native.Mathlib.Nat.{mod-eq-of-lt}
 use native.Mathlib.Omega.{arith}
 use lib.Dec.{eqb, ltb}
-use lib.ListN.{length, take, drop}
+use lib.ListN.{length, take, drop, length-take, length-drop}
 use borrow.Author.Tests.{ltb-true, ltb-false, eqb-true, not-false}
 use Rattle.quantity.specs.Component.{Pixel}
 use Rattle.rows.specs.declared.RowAnswer.{RowAnswer}
 use Rattle.rows.specs.declared.RowAnswer.the-variants.{Converted, Refused}
-use Rattle.rows.specs.Row.{sampleAt, spanBytes}
+use Rattle.rows.specs.Row.{sampleAt, convertedInto}
 use Rattle.rows.specs.Answer.{firstRefused, lengthRefused, destinationRefused, spanRefused, spanAnswer, bytesAfter, hostNumber}
 use Rattle.rows.proofs.RowLaws.{put-span}
+use Rattle.rows.proofs.SpanLaws.{filled}
 
 -- ---- the search for a refused sample, one sample on, and at its end
 pub refused-here : (refused : ℕ → Bool) (row : List ℕ) (i to : ℕ) → i < to
@@ -102,7 +104,18 @@ module _ (f : Pixel → Pixel) (row dst : List ℕ) (first end : ℕ) {a : RowAn
   pub refused-after : {number place : ℕ} → a ≡ Refused number place → dst ≡ bytesAfter a f row dst first end
   refused-after told = sym (ap (λ (x : RowAnswer). bytesAfter x f row dst first end) told)
 
-  pub converted-after : (ys : List ℕ) → a ≡ Converted → first ≤ end → 6 * end ≤ length row
-      → ys ≡ spanBytes f (take (length row - 6 * first) (drop (6 * first) row)) 0 (end - first)
-      → take (6 * first) dst ++ (ys ++ drop (6 * end - 6 * first) (drop (6 * first) dst)) ≡ bytesAfter a f row dst first end
-  converted-after ys told le within y = put-span f row dst ys first end le within y ∙ sym (ap (λ (x : RowAnswer). bytesAfter x f row dst first end) told)
+  pub converted-after : (ys : List ℕ) (to : ℕ) → a ≡ Converted → Accepted row (length dst) first end → to ≡ 6 * end
+      → ys ≡ convertedInto f (take (length row - 6 * first) (drop (6 * first) row)) (take (to - 6 * first) (drop (6 * first) dst))
+      → take (6 * first) dst ++ (ys ++ drop (to - 6 * first) (drop (6 * first) dst)) ≡ bytesAfter a f row dst first end
+  converted-after ys to told k at-end y =
+      let src = take (length row - 6 * first) (drop (6 * first) row) in
+      let part = take (to - 6 * first) (drop (6 * first) dst) in
+      let room : length part ≡ 6 * (end - first) = simp (length-take, length-drop) (omega (arith, k .same, k .within)) in
+      let enough : 6 * (end - first) ≤ length src = simp (length-take, length-drop) (omega (arith, k .within)) in
+      ap (λ (n : ℕ). take (6 * first) dst ++ (ys ++ drop (n - 6 * first) (drop (6 * first) dst))) at-end
+      ∙ put-span f row dst ys first end (k .ordered) (k .within) (y ∙ filled f src part (end - first) room enough)
+      ∙ sym (ap (λ (x : RowAnswer). bytesAfter x f row dst first end) told)
+
+-- ---- the number that a host is given of an answer that is another's, and fits
+pub host-number-is : {a b : RowAnswer} {r : ℕ} → r ≡ hostNumber a % 2 ^ 64 → a ≡ b → hostNumber b ≤ 6291456 → r ≡ hostNumber b
+host-number-is {b = b} e same fits = e ∙ ap (λ (x : RowAnswer). hostNumber x % 2 ^ 64) same ∙ mod-eq-of-lt (omega arith)

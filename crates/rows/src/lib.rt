@@ -1,16 +1,25 @@
-// Rows of 16-bit samples, three to a pixel, high byte first: the tests 6 to 9 of a span and the samples that they read. A call tests what else it
-// refuses and converts what these accept.
+// Rows of 16-bit samples, three to a pixel, high byte first: the tests 6 to 9 of a span, the samples that they read, and what calls on pixels
+// and rows answer. A call tests what else it refuses and converts what these accept.
+pub mod host;
+
 ghost use mathlib.Core.Path.{_≡_};
 ghost use Prim.Native.Nat.{min, _-_, _/_, _<_};
 ghost use lib.ListN.{length};
 ghost use Rattle.rows.specs.Row.{sampleAt};
 ghost use Rattle.rows.specs.Answer.{outside, firstRefused, lengthRefused, spanRefused, spanAnswer};
 use big_endian::number_at;
+pub use host::host_number;
 use std::num::wrapping_sub_u64;
 
 // A span that was converted, or a refusal: its number and its place.
 pub enum RowAnswer {
     Converted,
+    Refused(u64, u64),
+}
+
+// The three codes of a converted pixel, or a refusal: its number and its place.
+pub enum PixelAnswer {
+    Codes(u64, u64, u64),
     Refused(u64, u64),
 }
 

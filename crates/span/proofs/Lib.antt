@@ -1,3 +1,2 @@
 pub mod CodesLaws
 pub mod BlockLaws
-pub mod SpanLaws

@@ -1,13 +1,10 @@
 -- The conversion of any pixels under any declared peak (scope, HLG code; Reviewer's questions: a stage reads its range's nearer end), in either signal
 -- format (request 04). The peak is in whole cd/m2, codes are ten-bit, lists are bytes.
-use mathlib.Core.List.{List}
-use Prim.Native.Nat.{ℕ, max, min, _/_}
-use lib.ListN.{length}
+use Prim.Native.Nat.{ℕ, max, min}
 use Rattle.quantity.specs.declared.Source.{Source}
 use Rattle.quantity.specs.Component.{Pixel}
 use Rattle.eetf.specs.Curve.{peakRead}
 use Rattle.pixel.specs.Conversion.{code}
-use Rattle.rows.specs.Row.{withSpan}
 use Rattle.ycbcr.specs.declared.SignalFormat.{SignalFormat}
 use Rattle.ycbcr.specs.Delivery.{delivered}
 
@@ -26,7 +23,3 @@ deliveredUnder format source = delivered format (sourceRead source)
 -- an RGB code as it is read: HLG has none below 64 and none above 1,019
 abbrev pub hlgRead : ℕ → ℕ
 hlgRead d = min (max d 64) 1019
-
--- a destination that was filled from src by a conversion of a pixel: as many whole pixels as both have, the other bytes as they were
-abbrev pub convertedInto : (Pixel → Pixel) → List ℕ → List ℕ → List ℕ
-convertedInto f src dst = withSpan f src dst 0 (min (length src) (length dst) / 6)

@@ -1,19 +1,16 @@
 -- `pq_hlg::pq_hlg_convert_row` meets its contract: the number of the row call's answer.
-use mathlib.Core.Path.{sym, _∙_, ap}
+use mathlib.Core.Path.{sym}
 use borrow.Author.Needs.{needs}
-use Rattle.rows.specs.Answer.{hostNumber}
+use Rattle.rows.proofs.AnswerLaws.{host-number-is}
 use Rattle.pq_hlg.proofs.TestLaws.{row-number-fits}
 use Rattle.pq_hlg.proofs.pq_hlg_convert_row.Statement.{statement}
 use Rattle.pq_hlg.proofs.pq_hlg_convert_row.Tie as tie
-
-host-number-requires : tie.Need-host-number-requires
-host-number-requires c κs = rw (c .before .before .convert-row .ensures .0) (row-number-fits _ _ _ _ _)
 
 returns : tie.Need-returns
 returns c =
     let called = c .before .before .before .convert-row .ensures in
     let source = c .before .before .before .before .before .host-source .ensures in
-    rw (sym source) (c .host-number .ensures ∙ ap hostNumber (called .0), called .1)
+    rw (sym source) (host-number-is (c .host-number .ensures) (called .0) (row-number-fits _ _ _ _ _), called .1)
 
 pub pq-hlg-convert-row-spec : {M : Type 1} → statement M
-pq-hlg-convert-row-spec = tie.close (tie.spec (λ c κs. search needs) (λ c κs. search needs) host-number-requires (λ c. search needs) returns)
+pq-hlg-convert-row-spec = tie.close (tie.spec (λ c κs. search needs) (λ c κs. search needs) (λ c κs. search needs) (λ c. search needs) returns)

@@ -1,15 +1,14 @@
 -- `span::convert_blocks` meets its contract. The invariant: the destination holds the first j pixels converted and then its own bytes.
 -- The measure is the number of pixels left.
-use mathlib.Core.Path.{_≡_, refl, sym, _∙_, ap}
-use mathlib.Core.List.{List, _++_}
+use mathlib.Core.Path.{_≡_, refl, _∙_, ap}
+use mathlib.Core.List.{_++_}
 use Prim.Native.Nat.{ℕ, _+_, _*_, _-_, _≤_}
 use native.Mathlib.Omega.{arith}
-use lib.ListN.{length, take, drop, length-take, length-drop}
+use lib.ListN.{length, drop, length-take, length-drop}
 use borrow.Rule.Slice.PartMut.{same-len-mid}
-use Rattle.quantity.specs.Component.{Pixel}
 use Rattle.rows.specs.Row.{spanBytes}
 use Rattle.ycbcr.specs.Delivery.{delivered}
-use Rattle.rows.proofs.RowLaws.{span-of-part, span-further, length-span, put-pixels}
+use Rattle.rows.proofs.SpanLaws.{block-put}
 use Rattle.span.proofs.convert_blocks.Statement.{statement}
 use Rattle.span.proofs.convert_blocks.Tie as tie
 
@@ -28,16 +27,6 @@ convert-block-requires : tie.Need-convert-block-requires Inv-loop μ-loop
 convert-block-requires c κs =
     let pre = c .before .before .before .before .before .before .before .pre in
     (pre .0, pre .1, pre .2, omega arith, simp (length-take, length-drop) (omega arith), simp (length-take, length-drop) (omega arith))
-
--- one block more, by any conversion of a pixel
-block-put : (f : Pixel → Pixel) (src dst dst₀ ys : List ℕ) (j n : ℕ) → dst ≡ spanBytes f src 0 j ++ drop (6 * j) dst₀
-    → ys ≡ spanBytes f (take (6 * j + 6 * n - 6 * j) (drop (6 * j) src)) 0 n
-    → take (6 * j) dst ++ (ys ++ drop (6 * j + 6 * n - 6 * j) (drop (6 * j) dst)) ≡ spanBytes f src 0 (j + n) ++ drop (6 * (j + n)) dst₀
-block-put f src dst dst₀ ys j n e y =
-    let front = spanBytes f src 0 j in
-    put-pixels dst dst₀ front ys j n e (length-span f src 0 j)
-    ∙ ap (λ (l : List ℕ). (front ++ l) ++ drop (6 * (j + n)) dst₀) (y ∙ span-of-part f src j n (6 * j) (6 * j + 6 * n - 6 * j) refl (omega arith))
-    ∙ sym (ap (λ (l : List ℕ). l ++ drop (6 * (j + n)) dst₀) (span-further f src j n))
 
 loop-again : tie.Need-loop-again Inv-loop μ-loop
 loop-again c =

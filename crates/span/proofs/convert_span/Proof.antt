@@ -4,8 +4,8 @@ use native.Mathlib.Omega.{arith}
 use borrow.Author.Needs.{needs}
 use Rattle.quantity.specs.Units.{units}
 use Rattle.rows.proofs.RowLaws.{no-pixels}
+use Rattle.rows.proofs.SpanLaws.{begun}
 use Rattle.ycbcr.specs.Delivery.{delivered}
-use Rattle.span.proofs.SpanLaws.{begun}
 use Rattle.span.proofs.convert_span.Statement.{statement}
 use Rattle.span.proofs.convert_span.Tie as tie
 
