@@ -1,9 +1,9 @@
 // Guesses that spare work where a test confirms them. Nothing rests on their values: no function here promises one, each is only safe. A guess that
 // cannot be made is 0.
-ghost use Prim.Native.Nat.{_*_, _^_, _≤_, _<_};
 use crate::hint_table::HINTS;
 use std::num::wrapping_add_u64;
 use std::num::wrapping_sub_u64;
+use words::leading_zeros;
 use words::upper_word;
 
 // 2^58 and 2^38: a word over them is its six, or its 26, leading bits.
@@ -22,13 +22,6 @@ const WORD: u64 = 18446744073709551615;
 // The hints. Each mention of the constant fills an array, so it is mentioned here alone: taken once a call and lent.
 pub(crate) fn hint_table() -> [u64; 1361] {
     HINTS
-}
-
-// The zeros before the first one of a word.
-pub(crate) fn leading_zeros(x: u64) -> u64
-    ensures { λ r. ⌜ (r ≤ 64) × (x * 2 ^ r < 2 ^ 64) ⌝ }
-{
-    u64::leading_zeros(x) as u64
 }
 
 // A root, to fill a word, of the luminance n / 2^(z % 6), n being one that was shifted by its z leading zeros: in a straight line from one entry to the

@@ -5,9 +5,9 @@ ghost use Prim.Native.Nat.{_+_, _*_, _^_, _≤_};
 ghost use Rattle.quantity.specs.Units.{thousand};
 ghost use Rattle.hlg.specs.Code.{luminance};
 ghost use Rattle.hlg.specs.Root.{IsRoot};
-use crate::hints::leading_zeros;
 use crate::hints::root_hint;
 use std::num::wrapping_sub_u64;
+use words::leading_zeros;
 use words::upper_word;
 
 // 2^79 / K rounded down.

@@ -1,3 +1,4 @@
 pub mod HalvesLaws
+pub mod LeadingLaws
 pub mod NumberLaws
 pub mod QuotientLaws

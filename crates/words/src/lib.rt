@@ -1,9 +1,11 @@
 // Whole numbers of any size in 64-bit words, the lowest word first, without 128-bit integers.
+pub mod leading;
 pub mod multiple;
 pub mod order;
 pub mod product;
 pub mod quotient;
 
+pub use leading::leading_zeros;
 pub use multiple::multiply;
 pub use multiple::multiply_by_pair;
 pub use multiple::multiply_by_power;
