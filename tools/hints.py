@@ -25,8 +25,8 @@ from pathlib import Path
 sys.path.insert(0, str(Path(__file__).resolve().parent))
 import hlg_steps
 import light_table
+from generated import ROOT, run
 
-ROOT = Path(__file__).resolve().parent.parent
 SOURCE = ROOT / "crates/span/src/hint_table.rt"
 SPREAD = 10**12                          # `spread` of the laws; LEAST and SPREAD of root.rt are 2^79 / 5^11 less it, and twice it
 getcontext().prec = 50
@@ -40,14 +40,19 @@ def code_at(s):
     return 876 * signal + Decimal("64.5")
 
 
-def line(octave, top):
-    """The line over the products from top 2^(octave + 28) on, of which 2^17 make a scene light of 1/2^40."""
-    start, middle, end = (code_at(2 * top + half << octave + 10) for half in range(3))
+def chord(top, start, middle, end):
+    """The line over the numbers with the leading bits top, of a curve's heights at the first, in the middle and after the
+    last of them."""
     slope = int((end - start) * 2**12 + Decimal("0.5"))
     # the curve lies above its chord: half of what it does in the middle raises the whole line, so that it strays as
     # far to either side
     raised = start + (middle - (start + end) / 2) / 2
     return int(raised * 2**32 - slope * top * 2**20) >> 20 << 20 | slope
+
+
+def line(octave, top):
+    """The line over the products from top 2^(octave + 28) on, of which 2^17 make a scene light of 1/2^40."""
+    return chord(top, *(code_at(2 * top + half << octave + 10) for half in range(3)))
 
 
 def sixth_root(n):
@@ -120,22 +125,5 @@ def slack():
     return 0 if far <= SPREAD <= most else 1
 
 
-def main(arguments):
-    if arguments == ["slack"]:
-        return slack()
-    if arguments not in (["source"], ["--check"]):
-        print(__doc__, file=sys.stderr)
-        return 2
-    text = "\n".join(source()) + "\n"
-    if arguments == ["--check"]:
-        if SOURCE.read_text(encoding="utf-8") == text:
-            return 0
-        print(f"{SOURCE.relative_to(ROOT)} differs from what this program prints", file=sys.stderr)
-        return 1
-    sys.stdout.reconfigure(encoding="utf-8")
-    sys.stdout.write(text)
-    return 0
-
-
 if __name__ == "__main__":
-    sys.exit(main(sys.argv[1:]))
+    sys.exit(slack() if sys.argv[1:] == ["slack"] else run(sys.argv[1:], __doc__, {"source": (SOURCE, source)}))

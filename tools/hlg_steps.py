@@ -10,13 +10,13 @@ a ln(12E - b) + c: the exponential is enclosed between a partial sum of its seri
 are added until both ends give the same step. Each step is then tested again, with the light one below it.
 """
 import sys
-from pathlib import Path
+
+from generated import ROOT, run
 
 FIRST, LAST, LAST_SQUARE = 65, 1019, 502
 UNIT = 2**40  # scene light is counted in 1/UNIT
 DECIMALS = 10**8  # a, b and c have eight decimals
 A, B, C = 17883277, 28466892, 55991073
-ROOT = Path(__file__).resolve().parent.parent
 SOURCE = ROOT / "crates/hlg_steps/src/steps.rt"
 SPECS = ROOT / "crates/hlg_steps/specs/StepTable.antt"
 
@@ -42,9 +42,9 @@ def exponential(p, q, terms):
     return total, total + power, den
 
 
-def threshold_exponential(d, terms):
-    """Fractions, as pairs, below and above exp((e - c)/a) at e = (2d - 129)/1752."""
-    y, q = (2 * d - 129) * DECIMALS - C * 1752, A * 1752
+def signal_exponential(n, m, terms):
+    """Fractions, as pairs, below and above exp((e - c)/a) at the signal e = n/m."""
+    y, q = n * DECIMALS - C * m, A * m
     low, high, den = exponential(abs(y), q, terms)
     return ((low, den), (high, den)) if y >= 0 else ((den, high), (den, low))
 
@@ -68,7 +68,7 @@ def step(d):
         return s
     terms = 16
     while True:
-        low, high = threshold_exponential(d, terms)
+        low, high = signal_exponential(2 * d - 129, 1752, terms)
         s = least_reaching(high)
         if s == least_reaching(low):
             require(reaches(s, high) and not reaches(s - 1, low), f"step of {d}")
@@ -110,30 +110,11 @@ def specs(steps):
     yield f"step d = getD stepTable (min (d - {FIRST}) {len(steps) - 1}) 0"
 
 
-def text(form):
+def made(form):
     steps = [step(d) for d in range(FIRST, LAST + 1)]
     require(all(s < t for s, t in zip(steps, steps[1:])), "rising steps")
-    return "\n".join(form(steps)) + "\n"
-
-
-def check():
-    wrong = [path for form, path in ((source, SOURCE), (specs, SPECS)) if path.read_text(encoding="utf-8") != text(form)]
-    for path in wrong:
-        print(f"{path.relative_to(ROOT)} differs from what this program prints", file=sys.stderr)
-    return 1 if wrong else 0
-
-
-def main(arguments):
-    if arguments == ["--check"]:
-        return check()
-    form = {("source",): source, ("specs",): specs}.get(tuple(arguments))
-    if form is None:
-        print(__doc__, file=sys.stderr)
-        return 2
-    sys.stdout.reconfigure(encoding="utf-8")
-    sys.stdout.write(text(form))
-    return 0
+    return form(steps)
 
 
 if __name__ == "__main__":
-    sys.exit(main(sys.argv[1:]))
+    sys.exit(run(sys.argv[1:], __doc__, {"source": (SOURCE, lambda: made(source)), "specs": (SPECS, lambda: made(specs))}))
