@@ -1,4 +1,4 @@
-"""Every number that document 01 and requests 01 to 07 name, and the laws between their parts.
+"""Every number that document 01 and requests 01 to 08 name, and the laws between their parts.
 
     python3 -m tests.reference.check
 
@@ -7,6 +7,7 @@ Each function below is one law; it yields statements with whether they hold.
 
 import subprocess
 import sys
+from collections import Counter
 from contextlib import contextmanager
 from decimal import ROUND_HALF_UP, Decimal, localcontext
 from fractions import Fraction
@@ -17,16 +18,18 @@ from math import gcd, isqrt
 from pathlib import Path
 from random import Random
 
-from . import content_light, curve, exact, hlg, light, measure, metadata, program, row, sample_format
+from . import content_light, curve, display_light, exact, hlg, light, measure, metadata, program, returned, row, sample_format, scene_light
 from .cases import CORNER_CODES, CORNERS, UNIT_PIXELS, row as row_bytes, row_calls, title, word, ycbcr_codes
 from .format_cases import LIMITS, POSITION_PIXELS, UNREAD, format_row_calls
 from .light import A, BRIGHTEST, END, LAST, N, P, STEPS
 from .pixel import convert_pixel, hlg_codes, mapped_components
 from .refusal import Refused
+from .return_cases import ENDS, UNIT_COLOURS, beside_threshold, draw_colour, return_row_calls, scene_triples
 from .row import MOST_ROWS
 from .rounding import power, power_below
 from .sample_format import FORMATS, FULL_RANGE, TEN_FULL, TEN_NARROW, TWELVE_BITS, TWELVE_FULL, TWELVE_NARROW, Format, format_of
 from .samples import MARKED_PEAKS, draw_measured_row, draw_palette, draw_peaks, draw_pixel
+from .scene_light import S
 from .survey import bound, in_inner_zone, near_enough, quick_distance
 from .vectors import FILL, converted, measured
 from .ycbcr import by_fractions, convert_codes, luma_sum, round_away, unrounded, ycbcr
@@ -892,6 +895,203 @@ def measured_formats():
         for form in FORMATS for D in form.nominal[1::37] for q in [form.position(D)] for beside in (-1, 0, 1))
 
 
+# Request 08: the return path
+
+def halves_of_scene(d):
+    """The signals, in long decimals, of the scene lights half a unit below and half a unit above that of a code."""
+    return [exact.hlg_oetf(Decimal(max(0, 2 * S[d] + half)) / (2 * hlg.SCENE)) for half in (-1, 1)]
+
+
+def scene_lights():
+    """Whether these are the lights is found by the OETF in decimals: a logarithm, where they were made by an exponential on whole numbers."""
+    yield "codes from 64 to 1,019 have one", list(S) == list(range(64, 1_020))
+    yield "black has none, code 1,019 has 1,803,467,062,476", (S[64], S[1_019]) == (0, 1_803_467_062_476)
+    yield "they rise strictly", all(S[d] < S[d + 1] for d in range(64, 1_019))
+    signals = {d: Decimal(d - 64) / 876 for d in S}
+    yield "the signal of a code lies from half a unit below its light to half a unit above it, the latter not included", all(
+        low <= signals[d] < high for d in S for low, high in [halves_of_scene(d)])
+    yield "502 has signal 1/2, up to which the light is a third of the signal's square", signals[502] == Decimal("0.5") and all(
+        (2 * S[d] - 1) * 3 * 876**2 <= 2 * (d - 64)**2 * hlg.SCENE < (2 * S[d] + 1) * 3 * 876**2 for d in range(65, 503))
+    yield "that of 502 is a twelfth, and the next one is more", S[502] == hlg.SCENE // 12 < S[503]
+    rests = [hlg.SCENE * scene_light.light_bounds(scene_light.signal_of_code(d))[0] % 1 for d in S]
+    yield "no light lies within 1/1200 of a unit of a half", all(abs(rest - Fraction(1, 2)) > Fraction(1, 1_200) for rest in rests)
+    yield "white is 2^40 and 26,791 units more: a, b and c are taken as printed", S[940] - hlg.SCENE == 26_791
+    yield "on the way out each lies between the step of its code and the next one", all(
+        hlg.T.get(d, 0) <= S[d] < hlg.T.get(d + 1, S[d] + 1) for d in S)
+    yield "a code below 64 reads 64, one past 1,019 reads 1,019", all(scene_light.scene_light(d) == 0 for d in range(65)) and all(
+        scene_light.scene_light(d) == S[1_019] for d in (1_019, 1_020, 2**16, 2**64 - 1))
+
+
+def fifth_roots():
+    random = Random(12)
+    roots = [*range(40), *(2**power + beside for power in range(2, 41) for beside in (-1, 0, 1)), *(random.getrandbits(40) for _ in range(300))]
+    yield "the root of a fifth power is its base; a unit less has the one before", all(
+        display_light.fifth_root(c**5) == c and (c == 0 or display_light.fifth_root(c**5 - 1) == c - 1) for c in roots)
+    numbers = [*range(300), *(random.getrandbits(random.randrange(1, 200)) for _ in range(2_000))]
+    yield "no larger whole number has a fifth power as small", all(
+        c**5 <= n < (c + 1)**5 for n in numbers for c in [display_light.fifth_root(n)])
+
+
+def display_lights():
+    random = Random(13)
+    drawn = [tuple(S[max(d, 64)] for d in draw_colour(random)) for _ in range(400)]
+    cases = [(hlg.luminance(scenes), scene, c) for triple in (*scene_triples(random), *drawn)
+             for scenes in [[min(scene, S[1_019]) for scene in triple]] for scene, c in zip(scenes, display_light.display_lights(triple))]
+    yield "each light is reached and the next one is not, by the inequality as written", all(
+        display_light.reached(c, Y, scene) and not display_light.reached(c + 1, Y, scene) for Y, scene, c in cases)
+    yield "each is the published OOTF in long decimals, rounded down", all(
+        0 <= ootf(Y, scene) - c < 1 for Y, scene, c in cases if not whole_light(Y, scene))
+    yield "greys of 2^40, 2^35, 2^30, 2^25 and 2^20 have 1,000 cd/m2 over a power of 64, where both sides are equal; a unit less has less", all(
+        display_light.display_lights(grey(2**(40 - 5 * i))) == grey(A >> 6 * i) and max(display_light.display_lights(grey(2**(40 - 5 * i) - 1))) < A >> 6 * i
+        for i in range(5))
+    yield "a black pixel has no light, nor has a black component", (
+        display_light.display_lights((0, 0, 0)) == (0, 0, 0) and display_light.display_lights((0, S[940], 0))[::2] == (0, 0))
+    light = display_light.display_lights(grey(S[1_019]))[0] / N
+    yield "code 1,019 three times shows 1,810.9 cd/m2, document 001's 1 811", round(light, 1) == 1_810.9 and round(light) == 1_811
+    yield "no light of codes is more, so none comes near 10,000 cd/m2", all(c <= light * N for _, _, c in cases)
+    yield "a larger scene light in a pixel has no smaller display light", all(
+        pairs == sorted(pairs, key=lambda pair: pair[1]) for scenes in drawn for pairs in [sorted(zip(scenes, display_light.display_lights(scenes)))])
+
+
+def ootf(Y, scene):
+    """The OOTF by the published formula, in units: scene light times the fifth root of the luminance, for 1,000 cd/m2."""
+    share = Decimal(Y) / 10_000 / hlg.SCENE
+    return A * (share ** (Decimal(1) / 5) if share else share) * scene / hlg.SCENE
+
+
+def whole_light(Y, scene):
+    """Whether a light is whole without rounding; there a decimal may fall on either side of it."""
+    c = display_light.display_light(Y, scene)
+    return c**5 * 10_000 * 2**240 == A**5 * Y * scene**5
+
+
+def pq_codes_of_lights():
+    thresholds = {D: P[4 * (D - 64) - 2] for D in range(65, 941)}
+    yield "there are thresholds of 65 to 940, rising strictly", (
+        list(thresholds.values()) == returned.THRESHOLDS and all(thresholds[D] < thresholds[D + 1] for D in range(65, 940)))
+    yield "a threshold lies between the lights of its code and of the one before", all(
+        light.light_of_code(D - 1) < low < light.light_of_code(D) for D, low in thresholds.items())
+    yield "from its threshold on a light has the code, a unit less has the one before", all(
+        returned.pq_code(low) == D and returned.pq_code(low - 1) == D - 1 for D, low in thresholds.items())
+    yield "the light of a code has that code", all(returned.pq_code(light.light_of_code(D)) == D for D in range(64, 941))
+    yield "no light has 64, all above 10,000 cd/m2 have 940", (
+        returned.pq_code(0) == 64 and returned.pq_code(BRIGHTEST) == returned.pq_code(2**64 - 1) == 940)
+    beside = [low + units for low in thresholds.values() for units in (-1, 1)]
+    yield "a unit beside each threshold the code is the published inverse EOTF, rounded", all(
+        returned.pq_code(lit) == nearest(64 + 876 * exact.pq_inverse_eotf(Decimal(lit) / N)) for lit in beside)
+
+
+def by_powers(pixel):
+    """The codes without a root: the thresholds' fifth powers in the request's inequality."""
+    scenes = [scene_light.scene_light(d) for d in pixel]
+    Y = hlg.luminance(scenes)
+    return tuple(max((D for D, low in enumerate(returned.THRESHOLDS, 65) if display_light.reached(low, Y, scene)), default=64) for scene in scenes)
+
+
+def exact_codes(pixel):
+    """PQ codes before they are rounded, by the published formulas in long decimals."""
+    signals = [Decimal(max(d, 64) - 64) / 876 for d in pixel]
+    scenes = [signal**2 / 3 if signal <= Decimal("0.5") else (((signal - exact.c) / exact.a).exp() + exact.b) / 12 for signal in signals]
+    Y = exact.RED * scenes[0] + exact.GREEN * scenes[1] + exact.BLUE * scenes[2]
+    root = Y ** (Decimal(1) / 5) if Y else Y
+    return [64 + 876 * exact.pq_inverse_eotf(1_000 * root * scene) for scene in scenes]
+
+
+@contextmanager
+def scene_lights_rounded(up):
+    """Scene lights rounded down or up instead of to the nearest, for a while."""
+    kept = dict(S)
+    for d in S:
+        S[d] = (hlg.SCENE * scene_light.light_bounds(scene_light.signal_of_code(d))[up]).__floor__() + up * (S[d] > 0)
+    try:
+        yield
+    finally:
+        S.update(kept)
+
+
+def returned_pixels():
+    for d, D in ((940, 723), (64, 64), (1_019, 779), (65, 65), (4, 64), (63, 64)):
+        yield f"grey {d} becomes {D}", returned.convert_pixel(grey(d)) == grey(D)
+    back = (64, 64, 64), (723, 64, 64), (64, 722, 64), (64, 64, 722), (723, 723, 64), (64, 722, 722), (722, 64, 722), (723, 723, 723)
+    for codes, pixel in zip(CORNER_CODES, back):
+        yield f"document 002's {codes} becomes {pixel}", returned.convert_pixel(codes) == pixel
+        yield f"and {pixel} the same again at 1,000 cd/m2, or a code less", all(
+            0 <= code - again <= 1 for code, again in zip(codes, hlg_codes(1_000, pixel)))
+    random = Random(14)
+    drawn = [draw_colour(random) for _ in range(400)]
+    yield "roots and thresholds give what their powers give", all(
+        returned.pq_codes(pixel) == by_powers(pixel) for pixel in (*drawn[:150], *UNIT_COLOURS))
+    yield "each code lies less than 0.501 from the published formulas", all(
+        abs(code - value) < Decimal("0.501") for pixel in (*drawn, *map(grey, ENDS)) for code, value in zip(returned.pq_codes(pixel), exact_codes(pixel)))
+    yield "codes below 64 read as 64", all(
+        returned.pq_codes(pixel) == returned.pq_codes([max(d, 64) for d in pixel]) for pixel in drawn)
+    yield "no code is above 779", max(max(returned.pq_codes(pixel)) for pixel in (*drawn, *product((4, 64, 1_019), repeat=3))) == 779
+    greys = [returned.pq_codes(grey(d)) for d in range(4, 1_020)]
+    yield "greys stay grey and never fall", all(len(set(three)) == 1 for three in greys) and greys == sorted(greys)
+
+
+def hanging_colours():
+    lights = {pixel: display_light.display_lights([S[d] for d in pixel]) for pixel in UNIT_COLOURS}
+    yield "each stored colour that hangs on a unit has a light at a threshold or a unit below one", all(
+        any(lit in returned.THRESHOLDS or lit + 1 in returned.THRESHOLDS for lit in three) for three in lights.values())
+    codes = [returned.pq_codes(pixel) for pixel in UNIT_COLOURS[:5]]
+    moved = []
+    for up in (0, 1):
+        with scene_lights_rounded(up):
+            moved.append([returned.pq_codes(pixel) != three for pixel, three in zip(UNIT_COLOURS, codes)])
+    yield "of the first three a code moves if scene lights are rounded down, of the next two if they are rounded up", moved == [
+        [True] * 3 + [False] * 2, [False] * 3 + [True] * 2]
+    random = Random(15)
+    near = [min(abs(lit - low) / low for low in returned.THRESHOLDS for lit in display_light.display_lights([S[d] for d in beside_threshold(random)]))
+            for _ in range(30)]
+    yield "most colours that are drawn beside a threshold have a light within a ten-thousandth of one", sum(10_000 * share < 1 for share in near) > 15
+
+
+def round_trip():
+    """Greys sent to PQ and back; the request allows two codes."""
+    back = Counter(hlg_codes(1_000, returned.pq_codes(grey(d)))[0] - d for d in range(64, 941))
+    yield "of 877 greys 608 come back as they were, 150 a code lower, 119 a code higher", back == {0: 608, -1: 150, 1: 119}
+    yield "no grey is more than two codes away", max(map(abs, back)) <= 2
+    yield "only that of 940 has a PQ code above 1,000 cd/m2, 723, which is cut on the way out", [
+        d for d in range(64, 941) if light.light_of_code(returned.pq_codes(grey(d))[0]) > A] == [940]
+    there = Counter(returned.pq_codes(hlg_codes(1_000, grey(D)))[0] - D for D in range(64, 723))
+    yield "PQ greys up to 722 that go to HLG and return are at most one code away", max(map(abs, there)) <= 1
+
+
+def return_refusals():
+    for d, answer in ((3, (9, 0)), (1_020, (9, 0)), (4, None), (1_019, None), (0, (9, 0)), (65_535, (9, 0)), (2**64 - 1, (9, 0))):
+        yield f"HLG code {d}: {answer}", refusal(returned.convert_pixel, grey(d)) == answer
+        yield f"HLG code {d} at each place", [refusal(returned.convert_pixel, pixel) for pixel in ((d, 64, 64), (64, d, 64), (64, 64, d))] == [
+            answer and (9, place) for place in range(3)]
+    yield "the place is the first bad code's", refusal(returned.convert_pixel, (64, 3, 1_020)) == (9, 1)
+
+
+def return_rows():
+    data = row_bytes(*CORNER_CODES)
+    whole = row_bytes(*map(returned.pq_codes, CORNER_CODES))
+    for first in range(9):
+        for end in range(first, 9):
+            destination, wanted = (bytearray([FILL]) * len(data) for _ in range(2))
+            number = returned.c_number(data, destination, first, end)
+            wanted[6 * first:6 * end] = whole[6 * first:6 * end]
+            yield f"return, pixels {first} to {end}: these places and no others", (number, destination) == (0, wanted)
+    bad = row_bytes(grey(64), (64, 64, 1_020), grey(64))
+    calls = (                           # number, row, bytes of the destination, first, end
+        (6, bad[1:], 1, 2, 1), (6, bytes(49_158), 49_158, 0, 0), (7, bad, 1, 2, 1), (8, bad, 18, 2, 1), (8, bad, 18, 0, 4),
+        (9 + 256 * 5, bad, 18, 0, 3), (9 + 256 * 5, bad, 18, 1, 2), (0, bad, 18, 2, 3), (0, bad, 18, 3, 3),
+        (0, b"", 0, 0, 0), (8, b"", 0, 0, 1), (7, b"", 6, 0, 0))
+    for number, given, length, first, end in calls:
+        destination = bytearray([FILL]) * length
+        answer = returned.c_number(given, destination, first, end)
+        yield f"return, C number {number}: {len(given)} bytes, pixels {first} to {end}", answer == number
+        yield f"return, C number {number}: nothing is written by a refusal", number == 0 or destination == bytearray([FILL]) * length
+
+    def numbers(data, length, first, end):
+        return (returned.c_number(data, bytearray(length), first, end), row.c_number(1_000, 0, data, bytearray(length), first, end))
+    yield "the outward call under a sound peak refuses the same calls alike", all(
+        here == there for call in return_row_calls(Random(16)) for here, there in [numbers(*call)])
+
+
 # Voted property 3
 
 def distance():
@@ -953,7 +1153,8 @@ LAWS = (light_table, nearest_light, light_of_codes, positions, spline_is_hermite
         hlg_code, shorter_products, published_constants, published_table, corner_pixels, other_examples, cards, zero_fields, unconstrained_first,
         rows, program_answers, measured_numbers, measured_refusals, measured_lists, measured_codes, measured_records, measure_answers,
         formats, order_of_codes, format_codes, format_limits, unread_bits, format_cards, format_titles, measured_formats, mixed_lists,
-        published_ycbcr, rounding_away, ycbcr_of_codes, halves_of_luma, halves_of_chroma, code_refusals, ycbcr_rows, distance, greys, traps)
+        published_ycbcr, rounding_away, ycbcr_of_codes, halves_of_luma, halves_of_chroma, code_refusals, ycbcr_rows, scene_lights, fifth_roots,
+        display_lights, pq_codes_of_lights, returned_pixels, hanging_colours, round_trip, return_refusals, return_rows, distance, greys, traps)
 
 
 def failures():

@@ -1,6 +1,7 @@
-"""Document 01, "Cards, rows, program", with requests 04 and 06: the two row calls and the one number that C gets from them.
+"""Document 01, "Cards, rows, program", with requests 04 and 06: the two row calls to HLG and the one number that C gets from them.
 
-Both make the same HLG codes and differ in what they write of them: `rgb` or `ycbcr.ycbcr`.
+Both make the same HLG codes and differ in what they write of them: `rgb` or `ycbcr.ycbcr`. What they test and how they write serves the
+return path too.
 """
 
 from functools import lru_cache
@@ -41,12 +42,8 @@ def span_codes(L, span, form):
     return [hlg_codes(L, pixel, form) for pixel in pixels_of(samples_of(span))]
 
 
-def convert_row(L, row, destination, first, end, written=rgb, form=TEN_NARROW):
-    """Converts the span from `first` up to `end`, itself not included, and writes it to its places in `destination`, a bytearray.
-
-    `written` makes the three samples of a pixel of its HLG codes. Refusals 5 to 9 in this order; a refused call writes nothing.
-    """
-    refuse_peak(L)
+def tested_span(row, destination, first, end, form=TEN_NARROW):
+    """The bytes of the span from `first` up to `end`, itself not included, as a slice; refusals 6 to 9 in this order."""
     refuse_length(row)
     if len(destination) != len(row):
         raise Refused(7)
@@ -54,14 +51,33 @@ def convert_row(L, row, destination, first, end, written=rgb, form=TEN_NARROW):
         raise Refused(8)
     span = slice(PIXEL_BYTES * first, PIXEL_BYTES * end)
     refuse_samples(samples_of(row[span]), form, 3 * first)
-    given = [sample for codes in span_codes(L, bytes(row[span]), form) for sample in written(codes)]
-    destination[span] = b"".join(sample.to_bytes(2, "big") for sample in given)
+    return span
 
 
-def c_number(L, number, row, destination, first, end, written=rgb):
-    """One number for C: 0, or of a refusal its number and 256 times its place added up. `number` declares the format."""
+def write_span(destination, span, pixels):
+    """Writes pixels of three samples each to a slice of a bytearray."""
+    destination[span] = b"".join(sample.to_bytes(2, "big") for pixel in pixels for sample in pixel)
+
+
+def convert_row(L, row, destination, first, end, written=rgb, form=TEN_NARROW):
+    """Converts the span from `first` up to `end`, itself not included, and writes it to its places in `destination`, a bytearray.
+
+    `written` makes the three samples of a pixel of its HLG codes. Refusals 5 to 9 in this order; a refused call writes nothing.
+    """
+    refuse_peak(L)
+    span = tested_span(row, destination, first, end, form)
+    write_span(destination, span, map(written, span_codes(L, bytes(row[span]), form)))
+
+
+def number_for_c(call, *arguments):
+    """What C gets of a call: 0, or of a refusal its number and 256 times its place added up."""
     try:
-        convert_row(L, row, destination, first, end, written, format_of(number))
+        call(*arguments)
     except Refused as refused:
         return refused.number + 256 * refused.place
     return 0
+
+
+def c_number(L, number, row, destination, first, end, written=rgb):
+    """One number for C. `number` declares the format."""
+    return number_for_c(convert_row, L, row, destination, first, end, written, format_of(number))
