@@ -1,0 +1,2 @@
+pub mod SceneTests
+pub mod SceneLaws

@@ -1,0 +1,2 @@
+pub mod SceneLight
+pub mod SceneTable
