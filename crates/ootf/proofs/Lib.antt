@@ -1,0 +1,4 @@
+pub mod CancelledLaws
+pub mod LightLaws
+pub mod ProductLaws
+pub mod RootLaws
