@@ -1,0 +1,4 @@
+pub mod GreyHints
+pub mod GreyLaws
+pub mod RoundTripTests
+pub mod RoundTripLaws
