@@ -1,0 +1,4 @@
+pub mod BlockLaws
+pub mod CodesLaws
+pub mod NearLaws
+pub mod RootLaws
