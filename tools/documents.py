@@ -9,9 +9,9 @@ wrong. The files of a request's note are left out: a note tells of its day.
     crates             crates.txt, the folders, docs/CHECK.md and docs/MUST-FAIL.md have the same
     definitions        docs/READING.md names each file of specs/
     paths              each file, module, law and function that a document cites is there
-    refusals           README.md (the programs), include/pq_hlg.h (the row call), docs/READING.md (all, and the order of the measuring run's) and the
-                       second implementation have the same numbers
-    interface          PQ_HLG_ABI, CHANGELOG.md and tests/host/pq_hlg.rs name one version
+    refusals           README.md (the programs), include/pq_hlg.h and include/hlg_pq.h (the row calls), docs/READING.md (all, and the order of the
+                       measuring run's) and the second implementation have the same numbers
+    interface          PQ_HLG_ABI, CHANGELOG.md and tests/host/pq_hlg.rs name one version; so do HLG_PQ_ABI, CHANGELOG.md and tests/host/hlg_pq.rs
     sample             README.md shows the bytes of samples/glint.title, their samples, the lines of samples/glint.codes and that of samples/glint.peak
 """
 import re
@@ -26,10 +26,10 @@ FOLDERS = ("crates", "docs", "tools", "tests", "include", "samples", "bench", ".
 # the lists of the scope (What stops a call) and of requests 01 and 04, in the order of the tests
 CONVERT = [1, 2, 3, 4, 10, 11, 9]
 PROGRAMS = {"A title": CONVERT, "The peak of a title": [*CONVERT, 12]}       # by the section of README.md: `convert`, `measure`
-ROW_CALL = [5, 6, 7, 8, 9]
+ROW_CALLS = {"include/pq_hlg.h": [5, 6, 7, 8, 9], "include/hlg_pq.h": [6, 7, 8, 9]}
 MEASURING_RUN = {"measure_row": [13, 6, 9], "measured_peak": [12]}
 PIXEL_CALL_OF_CODES = [14]
-ALL = {number for refusals in (*PROGRAMS.values(), ROW_CALL, *MEASURING_RUN.values(), PIXEL_CALL_OF_CODES) for number in refusals}
+ALL = {number for refusals in (*PROGRAMS.values(), *ROW_CALLS.values(), *MEASURING_RUN.values(), PIXEL_CALL_OF_CODES) for number in refusals}
 
 faults, held = [], 0
 
@@ -192,8 +192,9 @@ def check_refusals():
     for heading, refusals in PROGRAMS.items():
         told = [n for row in tables(named.get(heading, "")) if "refused" in row for n in numbers(row["refused"])]
         expect(told == refusals, f"README.md's table of refusals under `{heading}` has {told}, the program tests {refusals}")
-    row_call = [int(number) for number in re.findall(r"^ +(\d+)  \S", read("include/pq_hlg.h"), flags=re.M)]
-    expect(row_call == ROW_CALL, f"include/pq_hlg.h has the refusals {row_call}, the row call tests {ROW_CALL}")
+    for header, refusals in ROW_CALLS.items():
+        told = [int(number) for number in re.findall(r"^ +(\d+)  \S", read(header), flags=re.M)]
+        expect(told == refusals, f"{header} has the refusals {told}, its row call tests {refusals}")
     rows = [row for row in tables(read("docs/READING.md")) if "refusal" in row]
     told = {n for row in rows for n in numbers(row["refusal"])}
     expect(told == ALL, f"docs/READING.md's table of refusals has {sorted(told)}, the scope and the requests {sorted(ALL)}")
@@ -211,6 +212,12 @@ def check_interface():
     expect(version and told[:1] == [version.group(1)], "CHANGELOG.md's newest interface is not the header's PQ_HLG_ABI")
     wrapped = re.search(r"version (\d+) of its interface", read("tests/host/pq_hlg.rs"))
     expect(version and wrapped and wrapped.group(1) == version.group(1), "tests/host/pq_hlg.rs does not name the header's PQ_HLG_ABI")
+    version = re.search(r"^#define HLG_PQ_ABI (\d+)$", read("include/hlg_pq.h"), flags=re.M)
+    expect(version is not None, "include/hlg_pq.h defines no HLG_PQ_ABI")
+    told = re.search(r"`HLG_PQ_ABI` (\d+)", read("CHANGELOG.md"))
+    expect(version and told and told.group(1) == version.group(1), "CHANGELOG.md's newest HLG_PQ_ABI is not the header's")
+    wrapped = re.search(r"version (\d+) of its interface", read("tests/host/hlg_pq.rs"))
+    expect(version and wrapped and wrapped.group(1) == version.group(1), "tests/host/hlg_pq.rs does not name the header's HLG_PQ_ABI")
 
 
 def check_sample():
