@@ -1,4 +1,4 @@
-/* How much of its thread's stack each of the two row calls uses in any format, and that it isn't more than LIMIT.
+/* How much of its thread's stack each of the row calls uses, those to HLG in any format, and that it isn't more than LIMIT.
  *
  * A thread gets a stack that has been painted; after its calls the lowest byte
  * of another colour shows how deep they wrote. Long frames are touched page by
@@ -10,6 +10,7 @@
 #include <string.h>
 #include <sys/mman.h>
 
+#include "hlg_pq.h"
 #include "pq_hlg.h"
 
 enum { STACK = 1 << 20, COLOUR = 0xA5, LIMIT = 72 * 1024, LONGEST = 8192 };
@@ -24,9 +25,21 @@ static const unsigned EXACT[][3] = {{660, 236, 539}, {287, 268, 136}, {657, 582,
                                     {690, 628, 823}, {413, 606, 933}, {562, 776, 695}, {452, 935, 872},
                                     {378, 645, 337}, {765, 907, 650}, {782, 604, 865}};
 
-enum { EXACTS = sizeof EXACT / sizeof *EXACT };
+/* HLG colours that are delicate on the way back, of which a light lies at the threshold of a code or a unit below one; and the
+   brightest. */
+static const unsigned DELICATE[][3] = {{140, 436, 503}, {172, 677, 247}, {213, 744, 155}, {177, 557, 248}, {527, 488, 513},
+                                       {373, 641, 882}, {995, 928, 337}, {1019, 1019, 1019}};
+
+enum { EXACTS = sizeof EXACT / sizeof *EXACT, DELICATES = sizeof DELICATE / sizeof *DELICATE };
 
 typedef uint64_t row_call(uint64_t, uint64_t, const uint8_t *, size_t, uint8_t *, size_t, size_t, size_t);
+
+/* The return path's call, which takes neither peak nor format. */
+static uint64_t convert_back(uint64_t peak, uint64_t format, const uint8_t *from, size_t from_len, uint8_t *to, size_t to_len,
+                             size_t first, size_t end) {
+    (void)peak, (void)format;
+    return hlg_pq_convert_row(from, from_len, to, to_len, first, end);
+}
 
 static row_call *measured;
 static uint8_t *stack, row[6 * LONGEST], dst[6 * LONGEST];
@@ -58,7 +71,8 @@ static void draw_row(uint64_t format) {
 
 static void *make_calls(void *nothing) {
     uint8_t *here = __builtin_frame_address(0);
-    for (size_t f = 0; f < sizeof FORMATS / sizeof *FORMATS; f++) {
+    size_t formats = measured == convert_back ? 1 : sizeof FORMATS / sizeof *FORMATS;
+    for (size_t f = 0; f < formats; f++) {
         draw_row(FORMATS[f]);
         for (size_t i = 0; i < sizeof PEAKS / sizeof *PEAKS; i++)
             for (size_t j = 0; j < sizeof LENGTHS / sizeof *LENGTHS; j++)
@@ -68,6 +82,9 @@ static void *make_calls(void *nothing) {
         put_sample(i, EXACT[i / 3][i % 3]);
     for (size_t i = 0; i < sizeof PEAKS / sizeof *PEAKS; i++)
         convert(PEAKS[i], 0, EXACTS);
+    for (size_t i = 0; i < 3 * DELICATES; i++)
+        put_sample(i, DELICATE[i / 3][i % 3]);
+    convert(1000, 0, DELICATES);
     uint8_t *lowest = stack;
     while (*lowest == COLOUR)
         lowest++;
@@ -93,7 +110,7 @@ int main(void) {
     stack = mmap(NULL, STACK, PROT_READ | PROT_WRITE, MAP_PRIVATE | MAP_ANONYMOUS, -1, 0);
     if (stack == MAP_FAILED)
         stop("no memory");
-    double rgb = stack_of(pq_hlg_convert_row), ycbcr = stack_of(pq_hlg_convert_row_ycbcr);
-    printf("a call uses %.1f KiB of stack in RGB, %.1f KiB in Y'CbCr\n", rgb, ycbcr);
+    double rgb = stack_of(pq_hlg_convert_row), ycbcr = stack_of(pq_hlg_convert_row_ycbcr), back = stack_of(convert_back);
+    printf("a call uses %.1f KiB of stack in RGB, %.1f KiB in Y'CbCr, %.1f KiB on the return path\n", rgb, ycbcr, back);
     return 0;
 }

@@ -1,21 +1,33 @@
 /* The stored vectors of the second implementation (rows.txt, ycbcr_rows.txt and pixels.txt in tests/vectors, ten-bit narrow
-   range, then those of the same names in tests/vectors/formats, where each line opens with a format) through the row calls from
-   C. tests/reference/README.md says what a line holds; a pixel is a row of one pixel here, in RGB, so samples past 16 bits are
-   left out.
-     gcc -O2 -Wall -Werror -Iinclude tests/host/vectors.c target/staticlib/libpq_hlg.a -o target/host/vectors_c
+   range, then those of the same names in tests/vectors/formats, where each line opens with a format, then rows.txt and pixels.txt
+   in tests/vectors/return, whose lines have no peak) through the row calls from C. tests/reference/README.md says what a line
+   holds; a pixel is a row of one pixel here, in RGB, so samples past 16 bits are left out.
+     gcc -O2 -Wall -Werror -Iinclude tests/host/vectors.c target/staticlib/libpq_hlg.a target/staticlib/libhlg_pq.a -o target/host/vectors_c
      target/host/vectors_c tests/vectors/rows.txt tests/vectors/ycbcr_rows.txt tests/vectors/pixels.txt \
-         tests/vectors/formats/rows.txt tests/vectors/formats/ycbcr_rows.txt tests/vectors/formats/pixels.txt
-   The last three may be left out. */
+         tests/vectors/formats/rows.txt tests/vectors/formats/ycbcr_rows.txt tests/vectors/formats/pixels.txt \
+         tests/vectors/return/rows.txt tests/vectors/return/pixels.txt
+   The last two may be left out, or the last five. Two files alone are those of the return path. */
 #include <inttypes.h>
 #include <stdio.h>
 #include <stdlib.h>
 #include <string.h>
 
+#include "hlg_pq.h"
 #include "pq_hlg.h"
 
 enum { LONGEST = 65536, UNWRITTEN = 0xa5 };
 
+/* What a line opens with: a peak, a format and a peak, or neither. */
+enum opening { PEAK, FORMAT_AND_PEAK, NOTHING };
+
 typedef uint64_t row_call(uint64_t, uint64_t, const uint8_t *, size_t, uint8_t *, size_t, size_t, size_t);
+
+/* The return path's call, which takes neither peak nor format. */
+static uint64_t convert_back(uint64_t peak, uint64_t format, const uint8_t *row, size_t row_len, uint8_t *dst, size_t dst_len,
+                             size_t first, size_t end) {
+    (void)peak, (void)format;
+    return hlg_pq_convert_row(row, row_len, dst, dst_len, first, end);
+}
 
 static uint8_t row[LONGEST], dst[LONGEST], expected[LONGEST];
 
@@ -41,20 +53,22 @@ static void must_match(int holds, const char *file, unsigned line) {
     }
 }
 
-/* The format that a line opens with, where the lines do; else 0, ten-bit narrow range. False at the end of the file. */
-static int read_format(FILE *in, int named, uint64_t *format) {
-    *format = 0;
-    return !named || fscanf(in, "%" SCNu64, format) == 1;
+/* Format and peak of a line; a format that is not there is 0, ten-bit narrow range. False at the end of the file. */
+static int read_opening(FILE *in, enum opening opening, uint64_t *format, uint64_t *peak) {
+    *format = *peak = 0;
+    if (opening == FORMAT_AND_PEAK && fscanf(in, "%" SCNu64, format) != 1)
+        return 0;
+    return opening == NOTHING || fscanf(in, "%" SCNu64, peak) == 1;
 }
 
-static unsigned test_rows(const char *file, row_call *convert, int named) {
+static unsigned test_rows(const char *file, row_call *convert, enum opening opening) {
     FILE *in = fopen(file, "r");
     char source[512], after[512];
     uint64_t format, peak, number;
     size_t first, end, len;
     unsigned line = 0;
-    while (in && read_format(in, named, &format)
-           && fscanf(in, "%" SCNu64 " %zu %zu %511s %zu %" SCNu64 " %511s", &peak, &first, &end, source, &len, &number, after) == 7) {
+    while (in && read_opening(in, opening, &format, &peak)
+           && fscanf(in, "%zu %zu %511s %zu %" SCNu64 " %511s", &first, &end, source, &len, &number, after) == 6) {
         line++;
         size_t bytes = read_bytes(source, row);
         memset(dst, UNWRITTEN, LONGEST);
@@ -68,14 +82,14 @@ static unsigned test_rows(const char *file, row_call *convert, int named) {
     return line;
 }
 
-static unsigned test_pixels(const char *file, int named, unsigned *left_out) {
+static unsigned test_pixels(const char *file, row_call *convert, enum opening opening, unsigned *left_out) {
     FILE *in = fopen(file, "r");
     char first[32];
     uint64_t format, peak, sample[3], code[3];
     unsigned line = 0, tried = 0;
-    while (in && read_format(in, named, &format)
-           && fscanf(in, "%" SCNu64 " %" SCNu64 " %" SCNu64 " %" SCNu64 " %31s %" SCNu64 " %" SCNu64,
-                     &peak, sample, sample + 1, sample + 2, first, code + 1, code + 2) == 7) {
+    while (in && read_opening(in, opening, &format, &peak)
+           && fscanf(in, "%" SCNu64 " %" SCNu64 " %" SCNu64 " %31s %" SCNu64 " %" SCNu64,
+                     sample, sample + 1, sample + 2, first, code + 1, code + 2) == 6) {
         line++;
         if (sample[0] > 65535 || sample[1] > 65535 || sample[2] > 65535) {
             ++*left_out;
@@ -91,7 +105,7 @@ static unsigned test_pixels(const char *file, int named, unsigned *left_out) {
             expected[2 * i] = refused ? UNWRITTEN : (uint8_t)(code[i] >> 8);
             expected[2 * i + 1] = refused ? UNWRITTEN : (uint8_t)code[i];
         }
-        uint64_t number = pq_hlg_convert_row(peak, format, row, 6, dst, 6, 0, 1);
+        uint64_t number = convert(peak, format, row, 6, dst, 6, 0, 1);
         must_match(number == (refused ? code[1] + 256 * code[2] : 0), file, line);
         must_match(memcmp(dst, expected, 6) == 0, file, line);
     }
@@ -100,15 +114,20 @@ static unsigned test_pixels(const char *file, int named, unsigned *left_out) {
 }
 
 int main(int argc, char **argv) {
-    if (argc != 4 && argc != 7)
+    if (argc != 3 && argc != 4 && argc != 7 && argc != 9)
         return 2;
-    unsigned rows = 0, ycbcr_rows = 0, pixels = 0, left_out = 0;
-    for (int named = 0; 3 * named + 3 < argc; named++) {
-        char **files = argv + 1 + 3 * named;
-        rows += test_rows(files[0], pq_hlg_convert_row, named);
-        ycbcr_rows += test_rows(files[1], pq_hlg_convert_row_ycbcr, named);
-        pixels += test_pixels(files[2], named, &left_out);
+    unsigned rows = 0, ycbcr_rows = 0, pixels = 0, return_rows = 0, return_pixels = 0, left_out = 0;
+    char **files = argv + 1, **end = argv + argc;
+    for (enum opening opening = PEAK; end - files >= 3; opening = FORMAT_AND_PEAK, files += 3) {
+        rows += test_rows(files[0], pq_hlg_convert_row, opening);
+        ycbcr_rows += test_rows(files[1], pq_hlg_convert_row_ycbcr, opening);
+        pixels += test_pixels(files[2], pq_hlg_convert_row, opening, &left_out);
     }
-    printf("%u rows in RGB, %u in Y'CbCr and %u pixels as stored, %u left out\n", rows, ycbcr_rows, pixels, left_out);
+    if (files < end) {
+        return_rows = test_rows(files[0], convert_back, NOTHING);
+        return_pixels = test_pixels(files[1], convert_back, NOTHING, &left_out);
+    }
+    printf("%u rows in RGB, %u in Y'CbCr and %u pixels as stored, of the return path %u rows and %u pixels; %u pixels left out\n",
+           rows, ycbcr_rows, pixels, return_rows, return_pixels, left_out);
     return 0;
 }

@@ -15,9 +15,11 @@ from pathlib import Path
 from random import Random
 from typing import NamedTuple
 
+from . import returned
 from .cases import UNIT_PIXELS, cards, light_questions, measured_titles, records, row_calls, titles, ycbcr_codes
 from .content_light import Record, measure_row, measured_peak
 from .curve import position_of_code
+from .display_light import display_lights, has_light
 from .format_cases import format_cards, format_light_questions, format_pixels, format_records, format_row_calls, format_titles, measured_format_titles
 from .light import light_at, light_entry, light_of_code, position_of
 from .measure import measure_title
@@ -25,9 +27,11 @@ from .metadata import after_metadata, source_of_metadata
 from .pixel import convert_pixel
 from .program import convert_title
 from .refusal import Refused
+from .return_cases import colours, return_row_calls, stage_questions
 from .row import MOST_ROWS, c_number, rgb
 from .sample_format import FULL_RANGE, TWELVE_BITS, format_of
 from .samples import delicate_pixels, draw_peaks, draw_pixel
+from .scene_light import scene_light
 from .ycbcr import convert_codes, ycbcr
 
 ROOT = Path(__file__).resolve().parents[2]
@@ -38,6 +42,9 @@ FILL = 0xA5                    # what a destination holds before the row call
 LIGHT_CALLS = {"entry": light_entry, "code": light_of_code, "light": light_at, "position": position_of}
 CODE_CALLS = {"code": light_of_code, "position": position_of_code}      # on a code of any format
 CALL_NUMBERS = {light_entry: 0, light_of_code: 1, light_at: 2, position_of: 3, position_of_code: 4}
+# The stages of the return path, in the order of their numbers; its pixel call is the next number.
+STAGES = {"scene": lambda numbers: [scene_light(*numbers)], "lights": display_lights, "code": lambda numbers: [returned.pq_code(*numbers)],
+          "reached": lambda numbers: [int(has_light(*numbers))]}
 LARGE = (2**16 + 64, 2**32 + 500, 2**63 + 100, 2**64 - 1, 2**64 - 64)
 
 
@@ -134,6 +141,26 @@ def format_light_question(number, call, D):
     return bytes([CALL_NUMBERS[CODE_CALLS[call]] | format_bits(number)]) + words(D)
 
 
+def stage_line(stage, numbers, given):
+    """`scene`, `lights`, `code` or `reached`, its numbers, then the answer; 1 for a light that is reached, else 0."""
+    return " ".join(map(str, (stage, *numbers, given)))
+
+
+def return_question(call, numbers):
+    """The call in one byte, then three numbers; a call on one number does not read the others."""
+    return bytes([call]) + words(*numbers, *[0] * (3 - len(numbers)))
+
+
+def stage_question(stage, numbers):
+    """A question to a stage of the return path."""
+    return return_question(list(STAGES).index(stage), numbers)
+
+
+def colour_question(codes):
+    """One to its pixel call."""
+    return return_question(len(STAGES), codes)
+
+
 def digits(data):
     """Bytes as hexadecimal digits, `-` for none, COUNT*BYTE for one byte many times."""
     if len(data) > 64 and len(set(data)) == 1:
@@ -141,12 +168,17 @@ def digits(data):
     return data.hex() or "-"
 
 
-def row_line(L, row, length, first, end, written=rgb, number=0):
-    """`peak first end row length number destination`; the destination is `same` if nothing was written."""
+def call_line(call, row, length, first, end):
+    """`first end row length number destination` of a row call; the destination is `same` if nothing was written."""
     destination = bytearray([FILL]) * length
-    answered = c_number(L, number, row, destination, first, end, written)
+    answered = call(row, destination, first, end)
     after = "same" if destination == bytearray([FILL]) * length else digits(destination)
-    return f"{L} {first} {end} {digits(row)} {length} {answered} {after}"
+    return f"{first} {end} {digits(row)} {length} {answered} {after}"
+
+
+def row_line(L, row, length, first, end, written=rgb, number=0):
+    """The peak, then as above."""
+    return f"{L} {call_line(partial(c_number, L, number, written=written), row, length, first, end)}"
 
 
 def format_row_line(number, *call, written=rgb):
@@ -235,6 +267,8 @@ class Answers(NamedTuple):
     format_lights: dict
     format_pixels: dict
     format_records: dict
+    stages: dict
+    colours: dict
 
 
 def answers():
@@ -247,7 +281,9 @@ def answers():
         {(data,): card_answer(data) for data in (*cards(), *(data[:8] for _, data in format_cards()))},
         {(number, call, D): str(CODE_CALLS[call](D, format_of(number))) for number, call, D in format_light_questions()},
         {(number, L, pixel): answer(convert_pixel, L, pixel, format_of(number)) for number, L, pixel in format_pixels()},
-        {case: record_answer(*case) for case in format_records()})
+        {case: record_answer(*case) for case in format_records()},
+        {(stage, numbers): answer(STAGES[stage], numbers) for stage, numbers in stage_questions(Random(SEED))},
+        {(colour,): answer(returned.convert_pixel, colour) for colour in colours(Random(SEED))})
 
 
 def vector_files(answered):
@@ -255,11 +291,13 @@ def vector_files(answered):
     for name, line, cases in (("lights", light_line, answered.lights), ("pixels", pixel_line, answered.pixels), ("ycbcr", codes_line, answered.ycbcr),
                               ("records", record_line, answered.records), ("cards", card_line, answered.cards),
                               ("formats/lights", format_light_line, answered.format_lights), ("formats/pixels", format_pixel_line, answered.format_pixels),
-                              ("formats/records", format_record_line, answered.format_records)):
+                              ("formats/records", format_record_line, answered.format_records),
+                              ("return/stages", stage_line, answered.stages), ("return/pixels", codes_line, answered.colours)):
         yield f"{FOLDER}/{name}.txt", lines(line(*case, given) for case, given in cases.items())
     for name, written in (("rows", rgb), ("ycbcr_rows", ycbcr)):
         yield f"{FOLDER}/{name}.txt", lines(row_line(*case, written) for case in row_calls())
         yield f"{FOLDER}/formats/{name}.txt", lines(format_row_line(*case, written=written) for case in format_row_calls())
+    yield f"{FOLDER}/return/rows.txt", lines(call_line(returned.c_number, *case) for case in return_row_calls(Random(SEED)))
     for name, data in (*titles(), *format_titles()):
         yield f"{FOLDER}/convert/{name}.in", data
         yield f"{FOLDER}/convert/{name}.out", converted(data)
@@ -284,7 +322,8 @@ def programs(answered):
             ("light_vectors", (light_question, answered.lights), (format_light_question, answered.format_lights)),
             ("pixel_vectors", (pixel_question, answered.pixels), (codes_question, answered.ycbcr), (format_pixel_question, answered.format_pixels)),
             ("record_vectors", (partial(record_question, 0), answered.records), (record_question, answered.format_records)),
-            ("card_vectors", (card_question, answered.cards))):
+            ("card_vectors", (card_question, answered.cards)),
+            ("return_vectors", (stage_question, answered.stages), (colour_question, answered.colours))):
         yield (crate, b"".join(question(*case) for question, cases in asked for case in cases),
                "".join(given + "\n" for _, cases in asked for given in cases.values()).encode())
 
