@@ -1,9 +1,12 @@
 /* Engines with one fault each, made of the right one: broken.py renames the
- * library's calls to right_row and right_ycbcr and builds this with
+ * libraries' calls to right_row, right_ycbcr and right_return and builds this with
  * -DWRONG_ROW=NAME_OF_A_FAULT, or with -DWRONG_YCBCR=NAME where the fault's
- * heading has YCBCR_CALL.
+ * heading has YCBCR_CALL, or with -DWRONG_RETURN=NAME where it has RETURN_CALL.
  */
+#include "hlg_pq.h"
 #include "pq_hlg.h"
+
+#include <math.h>
 
 #ifndef WRONG_ROW
 #define WRONG_ROW right_row
@@ -11,13 +14,19 @@
 #ifndef WRONG_YCBCR
 #define WRONG_YCBCR right_ycbcr
 #endif
+#ifndef WRONG_RETURN
+#define WRONG_RETURN right_return
+#endif
 
 #define CALL uint64_t peak, uint64_t format, const uint8_t *row, size_t row_len, uint8_t *dst, size_t dst_len, size_t first, size_t end
 #define YCBCR_CALL CALL
 #define GIVEN peak, format, row, row_len, dst, dst_len, first, end
+#define RETURN_CALL const uint8_t *row, size_t row_len, uint8_t *dst, size_t dst_len, size_t first, size_t end
+#define RETURNED row, row_len, dst, dst_len, first, end
 
 uint64_t right_row(CALL);
 uint64_t right_ycbcr(CALL);
+uint64_t right_return(RETURN_CALL);
 
 static int peak_sound(uint64_t peak)
 {
@@ -332,6 +341,161 @@ static uint64_t format_ignored_in_ycbcr(YCBCR_CALL)
     return right_ycbcr(peak, 0, row, row_len, dst, dst_len, first, end);
 }
 
+/* Faults of the return path. */
+
+/* 7 is tested before 6. */
+static uint64_t destination_before_row_in_return(RETURN_CALL)
+{
+    return dst_len != row_len ? 7 : right_return(RETURNED);
+}
+
+/* The product 6 * end is tested instead of end, and wraps round. */
+static uint64_t span_wraps_in_return(RETURN_CALL)
+{
+    uint64_t number = right_return(RETURNED);
+    return number == 8 && first <= end && 6 * end <= row_len ? 0 : number;
+}
+
+/* The place is counted from the span's first pixel. */
+static uint64_t place_in_span_of_return(RETURN_CALL)
+{
+    uint64_t number = right_return(RETURNED);
+    return number % 256 == 9 ? number - 256 * 3 * first : number;
+}
+
+/* A refusal of a sample leaves one byte written. */
+static uint64_t refused_return_call_writes(RETURN_CALL)
+{
+    uint64_t number = right_return(RETURNED);
+    if (number % 256 == 9)
+        dst[6 * first] ^= 1;
+    return number;
+}
+
+static uint64_t last_pixel_not_returned(RETURN_CALL)
+{
+    return right_return(row, row_len, dst, dst_len, first, end > first ? end - 1 : end);
+}
+
+/* The byte after the span is cleared. */
+static uint64_t byte_after_returned_span(RETURN_CALL)
+{
+    uint64_t number = right_return(RETURNED);
+    if (!number && 6 * end < dst_len)
+        dst[6 * end] = 0;
+    return number;
+}
+
+/* The way to HLG is taken instead. */
+static uint64_t outward_instead_of_return(RETURN_CALL)
+{
+    return right_row(1000, 0, row, row_len, dst, dst_len, first, end);
+}
+
+/* The return path in doubles with something in it to be changed; as it stands, nothing is. */
+struct formula {
+    double weights[3];          /* of luminance */
+    double power;               /* of luminance, by which scene light is multiplied */
+    double rounding;            /* of PQ codes */
+    unsigned least, most;       /* codes beyond these read as these */
+    unsigned off;               /* this code has the light of the one above it */
+    int own;                    /* each component has its own luminance */
+};
+
+static const struct formula RIGHT = { { 0.2627, 0.6780, 0.0593 }, 0.2, 0.5, 64, 1019, 0, 0 };
+
+static double scene_light(const struct formula *formula, unsigned code)
+{
+    code += code == formula->off;
+    code = code < formula->least ? formula->least : code > formula->most ? formula->most : code;
+    double signal = ((double)code - 64) / 876;
+    return signal <= 0.5 ? signal * signal / 3 : (exp((signal - 0.55991073) / 0.17883277) + 0.28466892) / 12;
+}
+
+static void returned_codes(const struct formula *formula, const uint8_t *pixel, int codes[3])
+{
+    double scene[3], luminance = 0;
+    for (int i = 0; i < 3; i++) {
+        scene[i] = scene_light(formula, sample(pixel, i));
+        luminance += formula->weights[i] * scene[i];
+    }
+    for (int i = 0; i < 3; i++) {
+        double root = pow(0.1 * pow(formula->own ? scene[i] : luminance, formula->power) * scene[i], 0.1593017578125);
+        codes[i] = (int)(64 + formula->rounding + 876 * pow((0.8359375 + 18.8515625 * root) / (1 + 18.6875 * root), 78.84375));
+    }
+}
+
+/* The right codes, moved by as much as the changed formula moves those in doubles: what doubles round otherwise cancels out. */
+static uint64_t by_formula(RETURN_CALL, struct formula changed)
+{
+    uint64_t number = right_return(RETURNED);
+    for (size_t p = first; !number && p < end; p++) {
+        int were[3], are[3];
+        returned_codes(&RIGHT, row + 6 * p, were);
+        returned_codes(&changed, row + 6 * p, are);
+        for (int i = 0; i < 3; i++)
+            put_sample(dst + 6 * p, i, (unsigned)((int)sample(dst + 6 * p, i) + are[i] - were[i]));
+    }
+    return number;
+}
+
+/* The weights of red and blue are exchanged. */
+static uint64_t weights_exchanged(RETURN_CALL)
+{
+    struct formula changed = RIGHT;
+    changed.weights[0] = RIGHT.weights[2];
+    changed.weights[2] = RIGHT.weights[0];
+    return by_formula(RETURNED, changed);
+}
+
+/* A code is reached at its own light and not half a code below: the table is read at 4(D - 64). */
+static uint64_t whole_steps(RETURN_CALL)
+{
+    struct formula changed = RIGHT;
+    changed.rounding = 0;
+    return by_formula(RETURNED, changed);
+}
+
+/* Codes below 64 have the light of their signal's square. */
+static uint64_t sub_black_read_as_itself(RETURN_CALL)
+{
+    struct formula changed = RIGHT;
+    changed.least = 0;
+    return by_formula(RETURNED, changed);
+}
+
+/* Codes above 940 read as 940, as PQ's do. */
+static uint64_t overshoots_read_as_940(RETURN_CALL)
+{
+    struct formula changed = RIGHT;
+    changed.most = 940;
+    return by_formula(RETURNED, changed);
+}
+
+/* One entry of the scene lights is the one after it. */
+static uint64_t scene_light_off(RETURN_CALL)
+{
+    struct formula changed = RIGHT;
+    changed.off = 300;
+    return by_formula(RETURNED, changed);
+}
+
+/* Luminance to the sixth root, as on the way out. */
+static uint64_t sixth_root(RETURN_CALL)
+{
+    struct formula changed = RIGHT;
+    changed.power = 1.0 / 6;
+    return by_formula(RETURNED, changed);
+}
+
+/* Gamma is applied to each component by itself. */
+static uint64_t gamma_by_component(RETURN_CALL)
+{
+    struct formula changed = RIGHT;
+    changed.own = 1;
+    return by_formula(RETURNED, changed);
+}
+
 uint64_t pq_hlg_convert_row(CALL)
 {
     return WRONG_ROW(GIVEN);
@@ -340,4 +504,9 @@ uint64_t pq_hlg_convert_row(CALL)
 uint64_t pq_hlg_convert_row_ycbcr(CALL)
 {
     return WRONG_YCBCR(GIVEN);
+}
+
+uint64_t hlg_pq_convert_row(RETURN_CALL)
+{
+    return WRONG_RETURN(RETURNED);
 }

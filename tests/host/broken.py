@@ -1,10 +1,11 @@
 """Shows that the comparison can fail: each fault of broken.c must be found.
 
-    python3 -m tests.host.broken [--seed N]
+    python3 -m tests.host.broken [--seed N] [--library FILE] [--return-library FILE]
 
 Prints what the comparison reports of each; fails if one passes for right.
 """
 
+import argparse
 import re
 import subprocess
 import sys
@@ -13,50 +14,58 @@ from io import StringIO
 from pathlib import Path
 
 from .compare import SHORT, Difference, run
-from .engine import LIBRARY, ROOT, Broken, own_folder
+from .engine import LIBRARY, RETURN_LIBRARY, ROOT, Broken, own_folder
 
 SOURCE = ROOT / "tests/host/broken.c"
-PARTS = ("damaged", "random", "greys")   # in turn, until one finds the fault
+HEADINGS = {"CALL": "WRONG_ROW", "YCBCR_CALL": "WRONG_YCBCR", "RETURN_CALL": "WRONG_RETURN"}
+# in turn, until one finds the fault
+PARTS = ("damaged", "random", "greys")
+RETURN_PARTS = ("return_damaged", "round_trip", "return_delicate")
 
 
 def faults():
     """The faults in the file's order: the name of each, and of the call that has it."""
-    found = re.findall(r"^static uint64_t (\w+)\((CALL|YCBCR_CALL)\)", SOURCE.read_text(), re.M)
-    if {heading for _, heading in found} != {"CALL", "YCBCR_CALL"}:
-        raise SystemExit("broken.c does not name faults of both calls")
-    return [(name, "WRONG_ROW" if heading == "CALL" else "WRONG_YCBCR") for name, heading in found]
+    found = re.findall(rf"^static uint64_t (\w+)\(({'|'.join(HEADINGS)})\)", SOURCE.read_text(), re.M)
+    if {heading for _, heading in found} != set(HEADINGS):
+        raise SystemExit("broken.c does not name faults of every call")
+    return [(name, HEADINGS[heading]) for name, heading in found]
 
 
-def build_broken(fault, call):
-    """A static library with one fault."""
+def build_broken(fault, call, libraries):
+    """The two static libraries, of which the first has every call with one fault among them, and the second the right ones."""
     folder = Path(own_folder().name)
-    library, part = folder / "libbroken.a", folder / "broken.o"
-    library.unlink(missing_ok=True)
-    subprocess.run(["objcopy", "--redefine-sym", "pq_hlg_convert_row=right_row",
-                    "--redefine-sym", "pq_hlg_convert_row_ycbcr=right_ycbcr", LIBRARY, library], check=True)
+    broken, right, part = folder / "libbroken.a", folder / "libright.a", folder / "broken.o"
+    broken.unlink(missing_ok=True)
+    for library, renamed in zip(libraries, (broken, right)):
+        subprocess.run(["objcopy", "--redefine-sym", "pq_hlg_convert_row=right_row", "--redefine-sym", "pq_hlg_convert_row_ycbcr=right_ycbcr",
+                        "--redefine-sym", "hlg_pq_convert_row=right_return", library, renamed], check=True)
     subprocess.run(["cc", "-std=c11", "-O1", "-w", "-I", ROOT / "include", f"-D{call}={fault}",
                     "-c", SOURCE, "-o", part], check=True)
-    subprocess.run(["ar", "r", library, part], check=True, capture_output=True)
-    return library
+    subprocess.run(["ar", "r", broken, part], check=True, capture_output=True)
+    return broken, right
 
 
-def reported(fault, call, seed):
+def reported(fault, call, seed, libraries):
     """What the comparison says of a fault, or nothing."""
-    library = build_broken(fault, call)
-    for part in PARTS:
+    built = build_broken(fault, call, libraries)
+    for part in RETURN_PARTS if call == "WRONG_RETURN" else PARTS:
         try:
             with redirect_stdout(StringIO()):
-                run(SHORT, seed, (part,), library)
+                run(SHORT, seed, (part,), *built)
         except (Difference, Broken) as found:
             return f"{part}: " + str(found).strip().split("\n")[0]
     return None
 
 
 def main(arguments):
-    seed = int(arguments[1]) if arguments[:1] == ["--seed"] else 1
+    parser = argparse.ArgumentParser(description=__doc__.split("\n")[0])
+    parser.add_argument("--seed", type=int, default=1, help="what is drawn by lot (1)")
+    parser.add_argument("--library", type=Path, default=LIBRARY, help="the static library to HLG")
+    parser.add_argument("--return-library", type=Path, default=RETURN_LIBRARY, help="that of the return path")
+    options = parser.parse_args(arguments)
     missed = 0
     for fault, call in faults():
-        words = reported(fault, call, seed)
+        words = reported(fault, call, options.seed, (options.library, options.return_library))
         missed += words is None
         print(f"{fault}: {words or 'NOT FOUND'}", flush=True)
     print(f"{missed} faults not found" if missed else "every fault found")

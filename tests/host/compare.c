@@ -2,8 +2,9 @@
  * the engine can say what each answer should have been.
  *
  * Standard input: calls one after the other. A call is seven 64-bit numbers in
- * the machine's order (struct call), then the row's bytes; a bit of its options
- * chooses between the RGB and the Y'CbCr call. Standard output:
+ * the machine's order (struct call), then the row's bytes; bits of its options
+ * choose between the RGB call, the Y'CbCr call and that of the return path, which
+ * takes neither peak nor format. Standard output:
  * for each call the number, what was harmed (0 if nothing), then every byte of
  * the destination. A row or destination longer than LONGEST has no bytes in
  * the stream: its pointer leads to memory that must not be touched.
@@ -13,6 +14,7 @@
  * are looked at after each call. With -DHEAP=COUNT both lie in blocks of the
  * heap instead, with so many guard bytes on either side.
  */
+#include "hlg_pq.h"
 #include "pq_hlg.h"
 
 #include <stdio.h>
@@ -23,7 +25,7 @@
 enum { LONGEST = 65536, TRAP = 65536, GUARD = 0x5A };
 
 /* Bits of `options`; its lowest eight are the destination's first byte. */
-enum { ROW_AT_START = 256, DST_AT_START = 512, ROW_NULL = 1024, DST_NULL = 2048, YCBCR = 4096 };
+enum { ROW_AT_START = 256, DST_AT_START = 512, ROW_NULL = 1024, DST_NULL = 2048, YCBCR = 4096, RETURN = 8192 };
 
 /* Bits of `harm`. */
 enum { ROW_CHANGED = 1, GUARD_OF_ROW = 2, GUARD_OF_DST = 4 };
@@ -35,9 +37,6 @@ struct call {
 struct answer {
     uint64_t number, harm;
 };
-
-/* Both calls take the same. */
-typedef uint64_t row_call(uint64_t, uint64_t, const uint8_t *, size_t, uint8_t *, size_t, size_t, size_t);
 
 static void stop(const char *why)
 {
@@ -104,6 +103,15 @@ static int guards_stand(uint8_t *const *block, const uint8_t *at, size_t bytes)
 
 #endif
 
+/* The call that the options choose. */
+static uint64_t convert(const struct call *call, const uint8_t *row, uint8_t *dst)
+{
+    if (call->options & RETURN)
+        return hlg_pq_convert_row(row, call->row_len, dst, call->dst_len, call->first, call->end);
+    return (call->options & YCBCR ? pq_hlg_convert_row_ycbcr : pq_hlg_convert_row)(
+        call->peak, call->format, row, call->row_len, dst, call->dst_len, call->first, call->end);
+}
+
 static int read_whole(void *to, size_t bytes)
 {
     return fread(to, 1, bytes, stdin) == bytes;
@@ -125,7 +133,6 @@ int main(void)
         int row_here = call.row_len <= LONGEST, dst_here = call.dst_len <= LONGEST;
         uint8_t *row = nowhere, *dst = nowhere;
         struct answer answer = { 0, 0 };
-        row_call *convert = call.options & YCBCR ? pq_hlg_convert_row_ycbcr : pq_hlg_convert_row;
 
         if (row_here) {
             row = place(&row_block, call.row_len, !!(call.options & ROW_AT_START));
@@ -138,11 +145,8 @@ int main(void)
             for (size_t i = 0; i < call.dst_len; i++)
                 dst[i] = (uint8_t)(call.options + i);
         }
-        answer.number = convert(
-            call.peak, call.format,
-            call.options & ROW_NULL && !call.row_len ? NULL : row, call.row_len,
-            call.options & DST_NULL && !call.dst_len ? NULL : dst, call.dst_len,
-            call.first, call.end);
+        answer.number = convert(&call, call.options & ROW_NULL && !call.row_len ? NULL : row,
+                                call.options & DST_NULL && !call.dst_len ? NULL : dst);
         if (row_here && memcmp(kept, row, call.row_len))
             answer.harm |= ROW_CHANGED;
         if (row_here && !guards_stand(&row_block, row, call.row_len))

@@ -1,6 +1,6 @@
-"""Compares the engine's two row calls, through the static library, with the second implementation.
+"""Compares the engine's row calls, through the static libraries, with the second implementation.
 
-    python3 -m tests.host.compare [--short] [--seed N] [--only PART ...] [--library FILE]
+    python3 -m tests.host.compare [--short] [--seed N] [--only PART ...] [--library FILE] [--return-library FILE]
 
 Every number and every destination byte is compared. README.md says what is tried.
 """
@@ -10,7 +10,7 @@ import shutil
 import sys
 import time
 from collections import Counter
-from itertools import islice, product
+from itertools import chain, islice, product
 from pathlib import Path
 from random import Random
 
@@ -21,10 +21,10 @@ from tests.reference.samples import MARKED_PEAKS, draw_peaks, draw_pixel
 from tests.reference.survey import bent_light, draw_case
 from tests.reference.ycbcr import luma_sum, ycbcr
 
-from . import greys
+from . import greys, return_path
 from .damaged import calls_of_lengths, draw_damaged, draw_format, draw_options, each_refusal, named_calls
 from .distances import Distances
-from .engine import DELIVERIES, HARM, LIBRARY, YCBCR, Broken, Call, ask, build, reachable
+from .engine import DELIVERIES, HARM, LIBRARY, RETURN_LIBRARY, YCBCR, Broken, Call, ask, build, reachable
 
 BATCH = 500                              # calls of one run of the C program
 ROW_PIXELS = 100                         # pixels drawn for one peak
@@ -33,11 +33,16 @@ GREYS = [code.to_bytes(2, "big") * 3 for code in range(1_020)]                  
 GREYS_YCBCR = [code.to_bytes(2, "big") + b"\2\0\2\0" for code in range(1_020)]         # and in Y'CbCr, both chroma 512
 
 FULL = {"random": 1_000_000, "adversarial": 500_000, "greys": 10_000, "damaged": 150_000,
-        "lengths": 49_159, "sanitizer": 5_000, "valgrind": 400, "sampled": 2_000}
+        "lengths": 49_159, "sanitizer": 5_000, "valgrind": 400, "sampled": 2_000,
+        "return_delicate": 500_000, "round_trip": 1_000_000, "return_lengths": 49_159, "return_damaged": 75_000}
 SHORT = {"random": 100_000, "adversarial": 60_000, "greys": 500, "damaged": 25_000,
-         "lengths": 1_000, "sanitizer": 1_000, "valgrind": 200, "sampled": 200}
+         "lengths": 1_000, "sanitizer": 1_000, "valgrind": 200, "sampled": 200,
+         "return_delicate": 50_000, "round_trip": 50_000, "return_lengths": 500, "return_damaged": 10_000}
 # Of each format beside ten-bit narrow range so much of the above; of twelve-bit greys, four times as many a peak, a quarter of that.
 SHARE = {"random": 1 / 4, "adversarial": 1 / 4, "greys": 1 / 5}
+RETURN_SHARE = 4                         # of the calls that memory is watched over, one in so many more is the return path's
+PARTS = ("random", "adversarial", "greys", "lengths", "damaged", "return_delicate", "round_trip", "return_lengths", "return_damaged",
+         "sanitizer", "valgrind")
 
 
 class Difference(Exception):
@@ -72,7 +77,10 @@ def destination_before(call):
 def wanted_answer(call):
     """Number and destination by the second implementation."""
     destination = destination_before(call)
-    number = c_number(call.peak, call.format, call.row, destination, call.first, call.end, ycbcr if call.in_ycbcr else rgb)
+    if call.returns:
+        number = return_path.wanted_number(call, destination)
+    else:
+        number = c_number(call.peak, call.format, call.row, destination, call.first, call.end, ycbcr if call.in_ycbcr else rgb)
     return number, bytes(destination) if reachable(call.dst_len) else b""
 
 
@@ -246,6 +254,55 @@ def compare_damaged(part, random, count, engine):
     return pixels
 
 
+def compare_delicate(random, count, engine):
+    """Greys and delicate colours through the return path; greys must not fall. Returns the pixels."""
+    progress, pixels = Progress("return_delicate", count, "pixels of the return path"), 0
+    for call, answer in compared(engine, return_path.delicate_rows(random, count, ROW_PIXELS)):
+        if pixels == 0 and samples_of(answer.destination) != sorted(samples_of(answer.destination)):     # the first row has all greys
+            raise Difference(f"{call}: a larger grey has a smaller code")
+        pixels += call.end
+        progress.step(call.end)
+    progress.line(", no difference")
+    return pixels
+
+
+def compare_round_trip(random, count, engine):
+    """Colours through the return path and back under a peak of 1,000, each way compared; prints how far they come back. Greys from 64 to 940
+    must come back at most two codes away. Returns the pixels."""
+    progress, pixels, found = Progress("round_trip", count, "colours there and back"), 0, return_path.RoundTrip()
+    greys_row = return_path.whole_row(random, [(d, d, d) for d in return_path.NOMINAL])
+    for batch in batches(chain([greys_row], return_path.random_rows(random, count, ROW_PIXELS))):
+        there = list(compared(engine, batch))
+        back = list(compared(engine, [return_path.there_and_back(*each) for each in there]))
+        for (call, answer), (_, again) in zip(there, back):
+            colours, pq, codes = (pixels_of(samples_of(data)) for data in (call.row, answer.destination, again.destination))
+            if call is greys_row:
+                far = [(was, became) for (was, *_), (became, *_) in zip(colours, codes) if abs(was - became) > return_path.FARTHEST_GREY]
+                if far:
+                    raise Difference(f"round trip: grey {far[0][0]} came back as {far[0][1]}")
+                continue
+            for each in zip(colours, pq, codes):
+                found.add(*each)
+            pixels += call.end
+            progress.step(call.end)
+    progress.line(", no difference; greys from 64 to 940 at most two codes away")
+    found.report()
+    return pixels
+
+
+def compare_return_calls(part, calls, count, engine, sure=False):
+    """Calls of the return path that may be refused; each refusal must have occurred if that is sure. Returns the pixels converted."""
+    progress, seen, pixels = Progress(f"{part}, return path", count, "calls"), Counter(), 0
+    for call, answer in compared(engine, calls):
+        seen[answer.number % 256] += 1
+        pixels += 0 if answer.number else call.end - call.first
+        progress.step(1)
+    progress.line(", no difference; accepted {}, refused {}".format(seen[0], ", ".join(f"{number}: {seen[number]}" for number in range(6, 10))))
+    if sure and set(seen) != {0, 6, 7, 8, 9}:
+        raise Difference(f"{part}: not every refusal of the return path occurred, or another one did: {sorted(seen)}")
+    return pixels
+
+
 def watched_by_valgrind(program):
     """A command whose reads and writes outside the heap's blocks make it fail."""
     if not shutil.which("valgrind"):
@@ -253,11 +310,24 @@ def watched_by_valgrind(program):
     return ["valgrind", "-q", "--error-exitcode=9", program]
 
 
-def run(sizes, seed, parts, library):
+def compare_return(part, random, count, engine):
+    """A part of the return path. Returns its pixels."""
+    if part == "return_delicate":
+        return compare_delicate(random, count, engine)
+    if part == "round_trip":
+        return compare_round_trip(random, count, engine)
+    if part == "return_lengths":
+        return compare_return_calls(part, return_path.calls_of_lengths(random, count), count, engine)
+    return compare_return_calls(part, return_path.damaged_calls(random, count), count, engine, sure=True)
+
+
+def run(sizes, seed, parts, library, return_library=RETURN_LIBRARY):
     """All parts; prints what was compared. True if demand 3's bounds hold as well."""
-    engine = [build("pages", library)]
+    def built(kind):
+        return build(kind, library, return_library=return_library)
+    engine = [built("pages")]
     distances = Distances(max(1, (sizes["random"] + sizes["adversarial"]) // sizes["sampled"]))
-    pixels, calls = Counter(), 0
+    pixels, calls, returned, return_calls = Counter(), 0, 0, 0
     for part in parts:
         size, random = sizes[part], Random(f"{part} {seed}")
         if part in ("random", "adversarial"):
@@ -268,34 +338,38 @@ def run(sizes, seed, parts, library):
             greys.check(random, 500)
             for form in FORMATS:
                 pixels += compare_greys(random, share(part, size, form), form, engine, distances)
+        elif part.startswith("return") or part == "round_trip":
+            returned += compare_return(part, random, size, engine)
+            return_calls += size if part in ("return_lengths", "return_damaged") else 0
         else:
             calls += size
             if part == "lengths":
                 pixels += compare_calls(part, calls_of_lengths(random, size), size, engine)[0]
             elif part == "damaged":
                 pixels += compare_damaged(part, random, size, engine)
-            elif part == "sanitizer":
-                pixels += compare_damaged(part, random, size, [build(part, library)])
             else:
-                pixels += compare_damaged(part, random, size, watched_by_valgrind(build("heap", library)))
+                watched = [built(part)] if part == "sanitizer" else watched_by_valgrind(built("heap"))
+                pixels += compare_damaged(part, random, size, watched)
+                returned += compare_return(part, random, size // RETURN_SHARE, watched)
+                return_calls += size // RETURN_SHARE
     sound = distances.report() if distances.count else True
     print(f"{pixels[False]:,} pixels in RGB, {pixels[True]:,} in Y'CbCr and {calls:,} calls of either, damaged or not, "
-          "compared: every number and byte equal")
+          f"{returned:,} pixels and {return_calls:,} such calls of the return path compared: every number and byte equal")
     return sound
 
 
 def main(arguments):
     parser = argparse.ArgumentParser(description=__doc__.split("\n")[0])
-    parts = ("random", "adversarial", "greys", "lengths", "damaged", "sanitizer", "valgrind")
     parser.add_argument("--short", action="store_true", help="the gate's sample instead of everything")
     parser.add_argument("--seed", type=int, default=1, help="what is drawn by lot (1)")
-    parser.add_argument("--only", nargs="+", choices=parts, default=parts, metavar="PART", help=", ".join(parts))
-    parser.add_argument("--library", type=Path, default=LIBRARY, help="the static library to try")
+    parser.add_argument("--only", nargs="+", choices=PARTS, default=PARTS, metavar="PART", help=", ".join(PARTS))
+    parser.add_argument("--library", type=Path, default=LIBRARY, help="the static library to HLG to try")
+    parser.add_argument("--return-library", type=Path, default=RETURN_LIBRARY, help="that of the return path")
     options = parser.parse_args(arguments)
     start = time.monotonic()
-    print(f"seed {options.seed}, {options.library.name}")
+    print(f"seed {options.seed}, {options.library.name}, {options.return_library.name}")
     try:
-        sound = run(SHORT if options.short else FULL, options.seed, options.only, options.library)
+        sound = run(SHORT if options.short else FULL, options.seed, options.only, options.library, options.return_library)
     except (Difference, Broken) as found:
         print(f"DIFFERENT: {found}")
         return 1

@@ -124,9 +124,9 @@ def draw_call(random):
     return draw_options(random) + random.choice((0, YCBCR))
 
 
-def draw_damaged(random):
-    """A call with no, one or several things wrong."""
-    pixels, number = draw_pixels(random), draw_format(random)
+def draw_damaged(random, form=None):
+    """A call with no, one or several things wrong, in any format or in a given one."""
+    pixels, number = draw_pixels(random), draw_format(random, form)
     first, end = draw_span(random, pixels)
     call = {"peak": random.choice((random.choice(MARKED_PEAKS), random.randint(1, 10_000))), "format": number,
             "row": draw_row(random, pixels, format_of(number)), "dst_len": PIXEL_BYTES * pixels, "first": first, "end": end}

@@ -1,4 +1,4 @@
-"""The static library, called through compare.c: calls go in as bytes, answers come back.
+"""The static libraries, called through compare.c: calls go in as bytes, answers come back.
 
 Nothing here knows what an answer should be.
 """
@@ -14,10 +14,11 @@ from tests.reference.sample_format import format_of
 
 ROOT = Path(__file__).resolve().parent.parent.parent
 LIBRARY = ROOT / "target/staticlib/libpq_hlg.a"
+RETURN_LIBRARY = ROOT / "target/staticlib/libhlg_pq.a"
 TARGET = ROOT / "target"
 
 LONGEST = 65_536               # longer rows and destinations cannot be touched; as in compare.c
-ROW_AT_START, DST_AT_START, ROW_NULL, DST_NULL, YCBCR = 256, 512, 1_024, 2_048, 4_096
+ROW_AT_START, DST_AT_START, ROW_NULL, DST_NULL, YCBCR, RETURN = 256, 512, 1_024, 2_048, 4_096, 8_192
 DELIVERIES = ("RGB", "Y'CbCr")
 HARM = {1: "the row was changed", 2: "bytes beside the row were changed",
         4: "bytes beside the destination were changed"}
@@ -31,7 +32,10 @@ FLAGS = {
 
 
 class Call(NamedTuple):
-    """One row call, in Y'CbCr if the options have that bit, else in RGB. A destination's byte i holds options + i before it, modulo 256."""
+    """One row call: to HLG, in Y'CbCr if the options have that bit, else in RGB; or that of the return path, which takes neither peak nor format.
+
+    A destination's byte i holds options + i before it, modulo 256.
+    """
     peak: int
     row: bytes                 # or a range, whose length counts alone
     dst_len: int
@@ -46,12 +50,18 @@ class Call(NamedTuple):
         return bool(self.options & YCBCR)
 
     @property
+    def returns(self):
+        """Whether it is the return path's call."""
+        return bool(self.options & RETURN)
+
+    @property
     def form(self):
         """Depth and range of its samples."""
         return format_of(self.format)
 
     def __str__(self):
-        return (f"{DELIVERIES[self.in_ycbcr]}, peak {self.peak}, format {self.format:#x}, row of {len(self.row)} bytes, destination of {self.dst_len}, "
+        name = "return" if self.returns else f"{DELIVERIES[self.in_ycbcr]}, peak {self.peak}, format {self.format:#x}"
+        return (f"{name}, row of {len(self.row)} bytes, destination of {self.dst_len}, "
                 f"first {self.first}, end {self.end}, options {self.options:#x}")
 
 
@@ -63,7 +73,7 @@ class Answer(NamedTuple):
 
 
 class Broken(Exception):
-    """The library ended the program that called it."""
+    """A library ended the program that called it."""
 
 
 @lru_cache(maxsize=None)
@@ -73,13 +83,14 @@ def own_folder():
     return TemporaryDirectory(prefix="host-", dir=TARGET)
 
 
-def build(kind, library=LIBRARY, name=None):
-    """Compiles compare.c with the library; returns the program's path. Two libraries of one run need two names."""
-    if not library.exists():
-        raise SystemExit(f"there is no {library}: run `rt staticlib pq_hlg` first")
+def build(kind, library=LIBRARY, name=None, return_library=RETURN_LIBRARY):
+    """Compiles compare.c with both libraries; returns the program's path. Two libraries of one kind in one run need two names."""
+    for path, crate in ((library, "pq_hlg"), (return_library, "hlg_pq")):
+        if not path.exists():
+            raise SystemExit(f"there is no {path}: run `rt staticlib {crate}` first")
     program = Path(own_folder().name) / f"compare_{name or kind}"
     subprocess.run(["cc", "-std=c11", "-D_GNU_SOURCE", "-Wall", "-Wextra", "-Werror", *FLAGS[kind],
-                    "-I", ROOT / "include", ROOT / "tests/host/compare.c", library, "-o", program],
+                    "-I", ROOT / "include", ROOT / "tests/host/compare.c", library, return_library, "-lm", "-o", program],
                    check=True)
     return program
 

@@ -1,11 +1,12 @@
-"""Shows that nothing rests on the values of the hints: a library with spoiled ones is proved as before and
-gives the same numbers and bytes, only slower.
+"""Shows that nothing rests on the values of the hints: libraries with spoiled ones are proved as before and
+give the same numbers and bytes, only slower.
 
-    python3 -m tests.host.spoiled [--kind KIND] [--seed N] [--library FILE] [--spoiled FILE]
+    python3 -m tests.host.spoiled [--kind KIND] [--seed N] [--library FILE] [--return-library FILE] [--spoiled FILE FILE]
 
-Copies the crates and what is proved of them to a temporary folder, spoils every number of hint_table.rt there,
-has the prover build that library, and asks both the same calls. Only span and pq_hlg are proved again. --spoiled names a
-library that is built already. How much slower it is, is printed; no time is asserted.
+Copies the crates and what is proved of them to a temporary folder, spoils every number of both files hint_table.rt there,
+has the prover build both libraries, and asks the sound and the spoiled ones the same calls. Only span, pq_hlg, return_span and
+hlg_pq are proved again. --spoiled names two libraries that are built already. How much slower they are, is printed; no time is
+asserted.
 """
 
 import argparse
@@ -13,47 +14,63 @@ import re
 import shutil
 import subprocess
 import sys
+from collections import Counter
 from pathlib import Path
 from random import Random
 from resource import RUSAGE_CHILDREN, getrusage
 from tempfile import TemporaryDirectory
+from typing import NamedTuple
 
 from tests.reference.sample_format import FORMATS, TEN_NARROW
 from tests.reference.samples import MARKED_PEAKS
 
-from .compare import Difference, adversarial_rows, batches, damaged_calls, hold, in_both, random_rows, row_of, share
-from .engine import LIBRARY, ROOT, Broken, Call, ask, build
+from . import return_path
+from .compare import ROW_PIXELS, Difference, adversarial_rows, batches, damaged_calls, hold, in_both, random_rows, row_of, share
+from .engine import LIBRARY, RETURN, RETURN_LIBRARY, ROOT, Broken, Call, ask, build
 
-TABLE = "crates/span/src/hint_table.rt"
 ENTRY = re.compile(r"^    (\d+),$", re.M)
 WORD = 2**64
 RUN = 16                                 # entries in a row that are spoiled alike: a guess takes two neighbours
-PIXELS = {"random": 40_000, "adversarial": 40_000}      # of ten-bit narrow range; of each other format a quarter
-DAMAGED = 2_000                          # calls
+PIXELS = {"random": 40_000, "adversarial": 40_000}      # of ten-bit narrow range and of the return path; of each other format a quarter
+DAMAGED = 2_000                          # calls, and of the return path a quarter
 TIMED, LONG = 20, 8_192                  # rows whose time is taken, and their pixels
 
 
-def off_by_a_little(random, hint):
-    """A hint that is nearly right: some of these still pass their test, some just fail it. The low 20 bits remain:
-    they are a line's slope."""
-    return hint + random.choice((-1, 1)) * (hint >> random.randrange(8, 40) >> 20 << 20)
+class Hints(NamedTuple):
+    """A crate that guesses by a table of hints, and the library that is built on it."""
+    crate: str
+    library: str
+    slope_bits: int                      # so many low bits of a hint are a line's slope
+
+    @property
+    def table(self):
+        """The file with the hints."""
+        return f"crates/{self.crate}/src/hint_table.rt"
+
+
+HINTS = (Hints("span", "pq_hlg", 20), Hints("return_span", "hlg_pq", 20))
+
+
+def off_by_a_little(random, hint, slope_bits):
+    """A hint that is nearly right: some of these still pass their test, some just fail it. Its slope remains."""
+    return hint + random.choice((-1, 1)) * (hint >> random.randrange(8, 40) >> slope_bits << slope_bits)
 
 
 SPOILERS = {
-    "zero": lambda random, hint: 0,
-    "random": lambda random, hint: random.randrange(WORD),
+    "zero": lambda random, hint, slope_bits: 0,
+    "random": lambda random, hint, slope_bits: random.randrange(WORD),
     "little": off_by_a_little,
 }
 
 
-def spoiled_text(text, kind, random):
-    """hint_table.rt with every number spoiled in one way, or in all of them by turns."""
+def spoiled_text(text, hinted, kind, random):
+    """A hint_table.rt with every number spoiled in one way, or in all of them by turns."""
     names = list(SPOILERS) if kind == "mixed" else [kind]
     hints = list(map(int, ENTRY.findall(text)))
     length = re.search(r"HINTS: \[u64; (\d+)\]", text)
     if not length or int(length[1]) != len(hints):
-        raise SystemExit(f"{TABLE} does not look as it should")
-    spoiled = iter([min(SPOILERS[names[i // RUN % len(names)]](random, hint), WORD - 1)
+        raise SystemExit(f"{hinted.table} does not look as it should")
+    spoiled = iter([min(SPOILERS[names[i // RUN % len(names)]](random, hint, hinted.slope_bits), WORD - 1)
                     for i, hint in enumerate(hints)])
     return ENTRY.sub(lambda _: f"    {next(spoiled)},", text)
 
@@ -65,24 +82,27 @@ def copy_tree(folder):
         shutil.copytree(ROOT / part, folder / part, symlinks=True)
 
 
-def prove_library(folder):
-    """The static library of a tree; nothing is built from what isn't proved."""
-    run = subprocess.run(["rt", "staticlib", "pq_hlg"], cwd=folder, capture_output=True, text=True)
+def prove_library(folder, hinted):
+    """A static library of a tree; nothing is built from what isn't proved."""
+    run = subprocess.run(["rt", "staticlib", hinted.library], cwd=folder, capture_output=True, text=True)
     if run.returncode:
-        raise Difference(f"with spoiled hints span or pq_hlg is not proved\n{run.stdout[-4_000:]}{run.stderr[-4_000:]}")
-    return folder / "target/staticlib/libpq_hlg.a"
+        raise Difference(f"with spoiled hints {hinted.crate} or {hinted.library} is not proved\n{run.stdout[-4_000:]}{run.stderr[-4_000:]}")
+    print(f"spoiled hints: {hinted.crate} and {hinted.library} are proved all the same", flush=True)
+    return folder / f"target/staticlib/lib{hinted.library}.a"
 
 
 def build_spoiled(folder, kind, random):
-    """A library whose hints are spoiled."""
+    """Both libraries, their hints spoiled."""
     copy_tree(folder)
-    table = folder / TABLE
-    table.write_text(spoiled_text(table.read_text(encoding="utf-8"), kind, random), encoding="utf-8")
-    return prove_library(folder)
+    for hinted in HINTS:
+        table = folder / hinted.table
+        table.write_text(spoiled_text(table.read_text(encoding="utf-8"), hinted, kind, random), encoding="utf-8")
+    return [prove_library(folder, hinted) for hinted in HINTS]
 
 
 def calls_to_compare(random):
-    """Pixels drawn evenly and where it is delicate and all greys under marked peaks, in RGB and in Y'CbCr, and damaged calls of either."""
+    """Pixels drawn evenly and where it is delicate and all greys under marked peaks, in RGB and in Y'CbCr, and damaged calls of either; then
+    the same of the return path."""
     for form in FORMATS:
         yield from in_both(random_rows(random, share("random", PIXELS["random"], form), form))
         yield from in_both(adversarial_rows(random, share("adversarial", PIXELS["adversarial"], form), form))
@@ -90,50 +110,55 @@ def calls_to_compare(random):
         peaks = MARKED_PEAKS if form == TEN_NARROW else (1_000, 4_000)
         yield from in_both(Call(L, greys, len(greys), 0, len(form.taken), format=form.number) for L in peaks)
     yield from damaged_calls(random, DAMAGED)
+    yield from return_path.random_rows(random, PIXELS["random"], ROW_PIXELS)
+    yield from return_path.delicate_rows(random, PIXELS["adversarial"], ROW_PIXELS)
+    yield from return_path.damaged_calls(random, DAMAGED // 4)
 
 
 def compare(sound, spoiled, random):
-    """Fails where the two answer differently; counts the calls and the pixels converted."""
-    calls = pixels = 0
+    """Fails where the two answer differently; counts the calls and the pixels converted, of the calls to HLG and of the return path."""
+    calls, pixels = Counter(), Counter()
     for batch in batches(calls_to_compare(random)):
         for call, wanted, given in zip(batch, ask([sound], batch), ask([spoiled], batch)):
             hold(call, given, (wanted.number, wanted.destination))
-            calls += 1
-            pixels += 0 if wanted.number else call.end - call.first
+            calls[call.returns] += 1
+            pixels[call.returns] += 0 if wanted.number else call.end - call.first
     return calls, pixels
 
 
-def time_a_pixel(program, random):
+def time_a_pixel(program, options, random):
     """Nanoseconds of CPU a pixel, on long rows of codes drawn evenly."""
     rows = [b"".join(code.to_bytes(2, "big") for code in random.choices(TEN_NARROW.taken, k=3 * LONG)) for _ in range(TIMED)]
     start = getrusage(RUSAGE_CHILDREN).ru_utime
-    ask([program], [Call(4_000, row, len(row), 0, LONG) for row in rows])
+    ask([program], [Call(4_000, row, len(row), 0, LONG, options) for row in rows])
     return 1e9 * (getrusage(RUSAGE_CHILDREN).ru_utime - start) / TIMED / LONG
 
 
-def run(library, spoiled, random):
-    """Compares both libraries and prints what was found."""
-    programs = build("pages", library, "sound"), build("pages", spoiled, "spoiled")
+def run(libraries, spoiled, random):
+    """Compares the sound libraries with the spoiled ones and prints what was found."""
+    programs = [build("pages", to_hlg, name, back) for (to_hlg, back), name in ((libraries, "sound"), (spoiled, "spoiled"))]
     calls, pixels = compare(*programs, random)
-    print(f"{calls:,} calls and {pixels:,} pixels, in RGB and in Y'CbCr: every number and byte as with sound hints")
-    sound, slow = (time_a_pixel(program, Random(1)) for program in programs)
-    print(f"about {sound:,.0f} ns a pixel with sound hints, {slow:,.0f} with spoiled ones")
+    for options, name in ((0, "in RGB and in Y'CbCr"), (RETURN, "of the return path")):
+        returns = bool(options)
+        print(f"{calls[returns]:,} calls and {pixels[returns]:,} pixels {name}: every number and byte as with sound hints")
+        sound, slow = (time_a_pixel(program, options, Random(1)) for program in programs)
+        print(f"about {sound:,.0f} ns a pixel with sound hints, {slow:,.0f} with spoiled ones")
 
 
 def main(arguments):
     parser = argparse.ArgumentParser(description=__doc__.split("\n")[0])
     parser.add_argument("--kind", choices=(*SPOILERS, "mixed"), default="mixed", help="how hints are spoiled (mixed)")
     parser.add_argument("--seed", type=int, default=1, help="what is drawn by lot (1)")
-    parser.add_argument("--library", type=Path, default=LIBRARY, help="the static library with sound hints")
-    parser.add_argument("--spoiled", type=Path, help="one with spoiled hints, instead of building it")
+    parser.add_argument("--library", type=Path, default=LIBRARY, help="the static library to HLG with sound hints")
+    parser.add_argument("--return-library", type=Path, default=RETURN_LIBRARY, help="that of the return path")
+    parser.add_argument("--spoiled", type=Path, nargs=2, metavar="FILE", help="both with spoiled hints, instead of building them")
     options = parser.parse_args(arguments)
     random = Random(f"spoiled {options.seed}")
     try:
         with TemporaryDirectory(prefix="spoiled-") as folder:
             if not options.spoiled:
                 options.spoiled = build_spoiled(Path(folder), options.kind, random)
-                print(f"spoiled hints ({options.kind}): span and pq_hlg are proved all the same")
-            run(options.library, options.spoiled, random)
+            run((options.library, options.return_library), options.spoiled, random)
     except (Difference, Broken) as found:
         print(f"DIFFERENT: {found}")
         return 1
