@@ -102,3 +102,23 @@ void convert_by_tables(const struct tables *tables, const uint8_t *row, uint8_t 
         write_codes(lights, dst);
     }
 }
+
+static double hlg_inverse_oetf(double signal)
+{
+    return signal <= 0.5 ? signal * signal / 3 : (exp((signal - c) / a) + b) / 12;
+}
+
+void convert_back_by_libm(const uint8_t *row, uint8_t *dst, size_t pixels)
+{
+    for (size_t p = 0; p < pixels; p++, row += 6, dst += 6) {
+        double scene[3];
+        for (int i = 0; i < 3; i++)
+            scene[i] = hlg_inverse_oetf((fmax(sample(row + 2 * i), 64) - 64) / 876);
+        double gain = 1000 * pow(0.2627 * scene[0] + 0.6780 * scene[1] + 0.0593 * scene[2], 0.2);
+        for (int i = 0; i < 3; i++) {
+            unsigned code = (unsigned)(64.5 + 876 * pq_inverse_eotf(gain * scene[i]));
+            dst[2 * i] = (uint8_t)(code >> 8);
+            dst[2 * i + 1] = (uint8_t)code;
+        }
+    }
+}

@@ -1,4 +1,4 @@
-/* The conversion as a facility would write it in C, in double precision. */
+/* The conversion to HLG and the return path as a facility would write them in C, in double precision. */
 #ifndef DOUBLES_H
 #define DOUBLES_H
 
@@ -16,5 +16,8 @@ void fill_tables(struct tables *tables, double peak);
 /* Each converts a row of pixels, three 16-bit samples each, high byte first. */
 void convert_by_libm(double peak, const uint8_t *row, uint8_t *dst, size_t pixels);
 void convert_by_tables(const struct tables *tables, const uint8_t *row, uint8_t *dst, size_t pixels);
+
+/* The same of HLG codes to PQ. */
+void convert_back_by_libm(const uint8_t *row, uint8_t *dst, size_t pixels);
 
 #endif

@@ -6,7 +6,7 @@
 import sys
 from pathlib import Path
 
-from .result import FORMATS, PEAKS, PICTURES, PIXELS, WAYS, read, three_digits
+from .result import FORMATS, PEAKS, PICTURES, PIXELS, RETURN_WAYS, WAYS, read, three_digits
 
 
 def table(words, head, rows):
@@ -34,6 +34,8 @@ def main(path):
            for pixels in PIXELS])
     table("ns a pixel of `row_call` under a peak of 4,000 (and times ten-bit narrow range)", ["", *PICTURES],
           [[f"`{name}`", *("{} ({})".format(*map(three_digits, result.formats[picture][name])) for picture in PICTURES)] for name in FORMATS])
+    table("ns a pixel of the return path (and times return_libm), and of `row_call` on the PQ picture under a peak of 1,000", ["", *PICTURES],
+          [[f"`{way}`", *("{} ({})".format(*map(three_digits, result.returned[picture][way])) for picture in PICTURES)] for way in RETURN_WAYS])
 
 
 if __name__ == "__main__":
