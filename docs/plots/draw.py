@@ -1,19 +1,20 @@
-"""Draws the highlight curve and the distances from the exact value, from the engine's own answers.
+"""Draws the highlight curve and the distances from the exact value, from the engine's own answers, and the round trip of greys.
 
-    python3 -m docs.plots.draw [LIBRARY]
+    python3 -m docs.plots.draw [LIBRARY RETURN_LIBRARY]
 
-Greys go through the static library. Exact values come from the second implementation.
+Greys go through the static library. Exact values come from the second implementation, and so does the round trip.
 """
 
 import math
 import sys
 from pathlib import Path
 
-from tests.host.engine import LIBRARY, Call, ask, build
+from tests.host.engine import LIBRARY, RETURN_LIBRARY, Call, ask, build
 from tests.reference import exact
 from tests.reference.samples import knee_code
 from tests.reference.survey import bent_light, code_light, distance_of
 
+from . import round_trip
 from .svg import COLOURS, INK, Frame, Picture
 
 FOLDER = Path(__file__).resolve().parent
@@ -133,12 +134,13 @@ def draw_distances(codes, largest):
     return picture
 
 
-def main(library):
-    engine = [build("pages", library)]
+def main(library=LIBRARY, return_library=RETURN_LIBRARY):
+    engine = [build("pages", library, return_library=return_library)]
     codes = dict(zip(PEAKS, grey_codes(engine, PEAKS)))
     draw_curve(codes).save(FOLDER / "highlight_curve.svg")
     draw_distances(codes, largest_distances(engine, codes[1_000])).save(FOLDER / "distance.svg")
+    round_trip.main()
 
 
 if __name__ == "__main__":
-    main(Path(sys.argv[1]) if len(sys.argv) > 1 else LIBRARY)
+    main(*map(Path, sys.argv[1:3]))
