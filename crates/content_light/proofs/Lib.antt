@@ -1,3 +1,4 @@
+pub mod RankLaws
 pub mod OutshinesLaws
 pub mod BoundLaws
 pub mod RecordLaws

@@ -11,15 +11,16 @@ use Rattle.quantity.specs.Component.{brightest}
 use Rattle.position.specs.Position.{lightAt}
 use Rattle.position.specs.Code.{codePosition}
 use Rattle.position.proofs.LightLaws.{light-grows}
-use Rattle.position.proofs.CodeLaws.{position-range, code-position-grows}
+use Rattle.position.proofs.CodeLaws.{code-position-grows}
 use Rattle.pixel.specs.Conversion.{brightestPosition}
+use Rattle.pixel.proofs.PixelLaws.{brightest-position-range}
 use Rattle.rows.specs.Row.{pixelAt}
 use Rattle.rows.proofs.AnswerLaws.{neither}
 use Rattle.content_light.specs.declared.RunRecord.{RunRecord}
 use Rattle.content_light.specs.declared.PeakAnswer.the-variants.{Peak, Refused}
 use Rattle.content_light.specs.Peak.{CodedRow, mostRows, outshines, roundedUp, peakOf}
 use Rattle.content_light.specs.Run.{mostPixels, recordRead, takesOver, withPixel, positionOf, withPixels, held, peakAnswer}
-use Rattle.content_light.specs.Bounds.{Bounded, OfCode}
+use Rattle.content_light.specs.Bounds.{Bounded}
 use Rattle.content_light.proofs.OutshinesLaws.{dimmer}
 use Rattle.content_light.proofs.BoundLaws.{brightest-bounded}
 
@@ -30,14 +31,6 @@ most-rows = refl
 pub most-pixels : mostPixels ≡ 35184372080640
 unfolding mostPixels mostRows
 most-pixels = refl
-
--- the position of a pixel's brightest code
-pub position-of-code : (row : CodedRow) (j : ℕ) → OfCode (positionOf row j)
-unfolding brightestPosition
-position-of-code row j = (row .format, brightest (pixelAt (row .bytes) j), refl)
-
-pub code-position-within : {m : ℕ} → OfCode m → m ≤ lastPosition
-code-position-within (f, D, e) = omega (arith, position-range f D)
 
 -- a record that counts so many pixels
 abbrev pub counting : RunRecord → ℕ → RunRecord
@@ -92,7 +85,7 @@ position-within r row zero h = h
 position-within r row (suc n) h =
     let s = withPixels r row n in
     chosen (λ (x : RunRecord). x .position .0 ≤ lastPosition) (takesOver s (positionOf row n)) _ _
-    (code-position-within (position-of-code row n)) (position-within r row n h)
+    (brightest-position-range (row .format) (pixelAt (row .bytes) n)) (position-within r row n h)
 
 -- a record that counts n more
 abbrev pub countingOn : RunRecord → ℕ → RunRecord

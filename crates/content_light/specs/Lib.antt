@@ -1,3 +1,4 @@
 pub mod Peak
 pub mod Run
 pub mod Bounds
+pub mod Rank

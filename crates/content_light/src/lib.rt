@@ -1,5 +1,6 @@
 // The measuring run over a title's rows: the largest component light of all pixels, which is the title's MaxCLL, and where it stands first. A record
 // is carried from row to row; every record that can be made is read, a field past its range at the range's end.
+mod rank;
 mod walk;
 
 ghost use mathlib.Core.Path.{_≡_};

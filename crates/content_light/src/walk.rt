@@ -11,9 +11,10 @@ ghost use Rattle.rows.specs.Answer.{firstRefused};
 ghost use Rattle.pq_hlg.specs.Pixel.{sampleRefused};
 ghost use Rattle.content_light.specs.Peak.{rowIn, mostRows, outshines};
 ghost use Rattle.content_light.specs.Run.{mostPixels, takesOver, withPixel, withPixels, withRow};
-ghost use Rattle.content_light.specs.Bounds.{Bounded, OfCode};
+ghost use Rattle.content_light.specs.Bounds.{Bounded};
 use crate::MOST_PIXELS;
 use crate::RunRecord;
+use crate::rank::light_rank;
 use position::code::code_position;
 use quantity::Position;
 use quantity::brightest_of;
@@ -132,7 +133,7 @@ fn brightest_position(format: SampleFormat, row: &[u8], j: usize) -> Position
 }
 
 fn with_pixel(run: RunRecord, m: Position, j: u64) -> RunRecord
-    requires { ⌜ (run .position .0 ≤ lastPosition) × OfCode (m .0) ⌝ }
+    requires { ⌜ (run .position .0 ≤ lastPosition) × (m .0 ≤ lastPosition) ⌝ }
     ensures { λ r. ⌜ r ≡ withPixel run (m .0) j ⌝ }
 {
     if takes_over(run, m) {
@@ -165,7 +166,7 @@ fn one_more(pixels: u64) -> u64
 
 // Whether a pixel whose brightest code has the position m becomes the record's.
 fn takes_over(run: RunRecord, m: Position) -> bool
-    requires { ⌜ (run .position .0 ≤ lastPosition) × OfCode (m .0) ⌝ }
+    requires { ⌜ (run .position .0 ≤ lastPosition) × (m .0 ≤ lastPosition) ⌝ }
     ensures { λ r. ⌜ r ≡ takesOver run (m .0) ⌝ }
 {
     if run.pixels == 0 {
@@ -175,12 +176,11 @@ fn takes_over(run: RunRecord, m: Position) -> bool
     outshines(m, position)
 }
 
-// The light rises up to each position of a code: there positions compare as their lights do.
 fn outshines(m: Position, found: Position) -> bool
-    requires { ⌜ (found .0 ≤ lastPosition) × OfCode (m .0) ⌝ }
+    requires { ⌜ (m .0 ≤ lastPosition) × (found .0 ≤ lastPosition) ⌝ }
     ensures { λ r. ⌜ r ≡ outshines (lightAt (m .0)) (lightAt (found .0)) ⌝ }
 {
-    if found.0 < m.0 {
+    if light_rank(found) < light_rank(m) {
         return true;
     }
     false

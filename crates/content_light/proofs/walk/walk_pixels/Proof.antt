@@ -4,10 +4,12 @@ use Prim.Native.Nat.{_-_, _/_, _≤_}
 use native.Mathlib.Omega.{arith}
 use lib.ListN.{length}
 use Rattle.quantity.specs.Units.{lastPosition}
+use Rattle.pixel.proofs.PixelLaws.{brightest-position-range}
+use Rattle.rows.specs.Row.{pixelAt}
 use Rattle.content_light.specs.declared.RunRecord.{RunRecord}
 use Rattle.content_light.specs.Peak.{rowIn}
 use Rattle.content_light.specs.Run.{withPixels}
-use Rattle.content_light.proofs.RecordLaws.{position-of-code, position-within, no-pixel, next-pixel}
+use Rattle.content_light.proofs.RecordLaws.{position-within, no-pixel, next-pixel}
 use Rattle.content_light.proofs.walk.walk_pixels.Statement.{statement}
 use Rattle.content_light.proofs.walk.walk_pixels.Tie as tie
 
@@ -21,10 +23,9 @@ with-pixel-requires : tie.Need-with-pixel-requires Inv-loop μ-loop
 with-pixel-requires c κs =
     let s = c .before .before .before .before in
     let loop = c .before .before .loop in
-    let row = rowIn (s .args .format) (s .args .row .now) in
-    let code = position-of-code row (loop .j) in (
+    let row = rowIn (s .args .format) (s .args .row .now) in (
       subst (λ (r : RunRecord). r .position .0 ≤ lastPosition) (sym (loop .inv .0)) (position-within (s .args .run) row (loop .j) (s .pre)),
-      (code .0, code .1, c .brightest-position .ensures ∙ code .2),
+      omega (arith, c .brightest-position .ensures, brightest-position-range (s .args .format) (pixelAt (s .args .row .now) (loop .j))),
     )
 
 loop-again : tie.Need-loop-again Inv-loop μ-loop

@@ -2,6 +2,7 @@
 use mathlib.Core.Path.{sym, ap, _∙_}
 use native.Mathlib.Omega.{arith}
 use borrow.Author.Needs.{needs}
+use Rattle.position.proofs.CodeLaws.{position-range}
 use Rattle.content_light.proofs.RecordLaws.{most-pixels, counting, only-counted}
 use Rattle.content_light.specs.Peak.{rowIn, pixelsOf}
 use Rattle.content_light.specs.Run.{mostPixels, takesOver}
@@ -9,7 +10,7 @@ use Rattle.content_light.proofs.walk.with_pixels.Statement.{statement}
 use Rattle.content_light.proofs.walk.with_pixels.Tie as tie
 
 takes-over-requires : tie.Need-takes-over-requires
-takes-over-requires c κs = let s = c .before .before in (s .pre .1, (s .args .format, s .args .most, c .code-position .ensures))
+takes-over-requires c κs = let s = c .before .before in (s .pre .1, omega (arith, c .code-position .ensures, position-range (s .args .format) (s .args .most)))
 
 returns-2 : tie.Need-returns-2
 unfolding mostPixels
