@@ -5,6 +5,7 @@ pub mod RecordLaws
 pub mod AnswerLaws
 pub mod RangeLaws
 pub mod RunLaws
+pub mod BrightestLaws
 pub mod FirstLaws
 pub mod PeakLaws
 pub mod Examples

@@ -10,14 +10,18 @@ use Rattle.content_light.specs.Peak.{outshines}
 use Rattle.content_light.specs.Rank.{lightRank}
 use Rattle.content_light.proofs.RankLaws.{rank-le, rank-lt}
 
--- what outshines has more light, what does not has no more
-pub outshines-lt : (light found : ℕ) → outshines light found ≡ true → found < light
+-- what outshines has no less light, what does not has no more; of equals the later does not
+pub outshines-le : (light found : ℕ) → outshines light found ≡ true → found ≤ light
 unfolding outshines
-outshines-lt light found h = ltb-true found light h
+outshines-le light found h = omega (arith, ltb-true found light h)
 
 pub outshone-le : (light found : ℕ) → outshines light found ≡ false → light ≤ found
 unfolding outshines
 outshone-le light found h = ltb-false found light h
+
+pub equal-left : (light : ℕ) → outshines light light ≡ true → ⊥
+unfolding outshines
+equal-left light h = omega (arith, ltb-true light light h)
 
 -- where a light does not outshine, no smaller one does
 pub dimmer : (light brighter found : ℕ) → light ≤ brighter → outshines brighter found ≡ false → outshines light found ≡ false

@@ -29,7 +29,7 @@ use Rattle.content_light.specs.Peak.{CodedRow, pixelsOf, Test, accepted,
 use Rattle.content_light.specs.Peak.{counted, kept, acceptedRows, lightOf, Brightest, none, found, brightestPixel}
 use Rattle.content_light.specs.Peak.{roundedUp, peakOf, measured}
 use Rattle.content_light.proofs.RangeLaws.{taken}
-use Rattle.content_light.proofs.FirstLaws.{rowAt, Located, FirstBrightest, first-brightest}
+use Rattle.content_light.proofs.BrightestLaws.{rowAt, Located, BrightestAt, brightest-found}
 
 -- ---- rounding up: enough, and no more than enough
 pub enough : (light : ℕ) → light ≤ roundedUp light * units
@@ -94,9 +94,9 @@ pub record Under (peak : ℕ) (row : CodedRow) : Type 0 where
   pub position : (j : ℕ) → j < pixelsOf row → brightestPosition (row .format) (pixelAt (row .bytes) j) ≤ positionOf (peak * units)
 
 module _ (rows : List CodedRow) {peak row pixel : ℕ} (m : measured rows ≡ Peak peak row pixel) where
-  -- its light is that of the first brightest pixel
+  -- its light is that of a brightest pixel
   abbrev FoundLight : Type 0
-  FoundLight = (light : ℕ) × (peak ≡ roundedUp light) × FirstBrightest (acceptedRows 0 rows) light row pixel
+  FoundLight = (light : ℕ) × (peak ≡ roundedUp light) × BrightestAt (acceptedRows 0 rows) light row pixel
 
   found-light : FoundLight
   unfolding measured peakOf
@@ -108,7 +108,7 @@ module _ (rows : List CodedRow) {peak row pixel : ℕ} (m : measured rows ≡ Pe
           let h = simp e at m in
           let same-row : r ≡ row = cc in
           let same-pixel : j ≡ pixel = cc in
-          (light, cc, first-brightest (acceptedRows 0 rows) (e ∙ rw (same-row, same-pixel)))
+          (light, cc, brightest-found (acceptedRows 0 rows) (e ∙ rw (same-row, same-pixel)))
 
   -- no pixel of an accepted row has more light,
   pub peak-enough : (i j : ℕ) → Located (acceptedRows 0 rows) i j → lightOf (rowAt (acceptedRows 0 rows) i) j ≤ peak * units
