@@ -14,9 +14,9 @@ from pathlib import Path
 from random import Random
 
 from tests.reference.cases import title, word
-from tests.reference.content_light import ENDS
+from tests.reference.content_light import ENDS, Record, as_read
 from tests.reference.format_cases import card as maxcll_card
-from tests.reference.light import light_of_code
+from tests.reference.light import light_at, light_of_code
 from tests.reference.row import PIXEL_BYTES, WIDEST, pixels_of, samples_of
 from tests.reference.sample_format import FORMATS, format_of
 from tests.reference.samples import draw_measured_row, draw_palette, draw_row, with_bad_samples
@@ -152,17 +152,30 @@ def draw_record(random, codes, form):
 
 
 def draw_question(random):
-    """The number of a format, a record and a row, which may be refused. The record's position is often that of a row in another format."""
+    """The number of a format, a record and a row, which may be refused. The record's position is often that of a row in another format.
+
+    One row in eight is of dark codes alone, and the record's position then at that of the brightest or up to three above it: some share its light.
+    """
     number = random.randrange(256)
     form, before = format_of(number), random.choice(FORMATS)
     codes = draw_palette(random, form)
     record = draw_record(random, codes, form) if random.randrange(3) else draw_record(random, draw_palette(random, before), before)
+    if random.randrange(8) == 0:
+        codes = range(form.taken[0], form.black + random.randint(1, 3))
+        record = *record[:2], form.position(codes[-1]) + random.randrange(4), *record[3:]
     return number, record, draw_measured_row(random, codes, random.choice((0, 1, 1, 2, 4, 7)), form)
+
+
+def ties_apart(number, record, row):
+    """Whether the largest light of an accepted row is the record's, at a position that no code of the row has."""
+    form, read = format_of(number), as_read(Record(*record))
+    codes = [max(pixel) for pixel in pixels_of(samples_of(row))]
+    return bool(read.pixels and codes and light_of_code(max(codes), form) == light_at(read.position) and form.position(max(codes)) != read.position)
 
 
 def compare_records(random, count, built):
     """Records and rows through the test program of the record's calls."""
-    seen, left = Counter(), count
+    seen, apart, left = Counter(), 0, count
     while left:
         questions = [draw_question(random) for _ in range(min(BATCH, left))]
         given = run(built, "record_vectors", b"".join(record_question(*question) for question in questions)).decode().splitlines()
@@ -170,12 +183,15 @@ def compare_records(random, count, built):
             owed = record_answer(*question)
             if line != owed:
                 raise Difference(f"record_vectors answered {line!r}, should be {owed!r}: {format_record_line(*question, '')}")
+            apart += not owed.startswith("refused") and ties_apart(*question)
             for part in owed.split(" : "):
                 seen[" ".join(part.split()[:2]) if part.startswith("refused") else "accepted"] += 1
         left -= len(questions)
-    print(f"records: {count:,} answered as they should be, each by both calls; {counts(seen)}")
+    print(f"records: {count:,} answered as they should be, each by both calls; {counts(seen)}; {apart:,} rows tie at another position")
     if set(seen) != RECORD_ANSWERS:
         raise Difference(f"records: not every answer occurred, but {sorted(seen)}")
+    if 500 * apart < count:
+        raise Difference(f"records: rows that tie at another position are rare, {apart} of {count}")
 
 
 def counts(seen):

@@ -501,12 +501,14 @@ def measured_numbers():
             one_pixel(*codes) == (peak, 0, 0) for codes in (grey(D), (D, 4, 64), (64, D, 4), (4, 64, D)))
     yield "722 has 993.73 cd/m2 and 723 has 1,004.19", [round(light.light_of_code(D) / N, 2) for D in (722, 723)] == [993.73, 1_004.19]
     dim, bright = grey(509), grey(800)
-    yield "the first of equal pixels in a row", content_light.measure(narrow(row_bytes(dim, bright, dim, bright))) == (2_249, 0, 1)
-    yield "the first of equal rows", content_light.measure(
-        narrow(row_bytes(dim, dim), row_bytes(dim, bright), row_bytes(bright, dim))) == (2_249, 1, 1)
-    yield "super-whites tie with 940, sub-blacks with 64", (
-        content_light.measure(narrow(row_bytes(grey(940), grey(1_019)))) == (10_000, 0, 0)
-        and content_light.measure(narrow(row_bytes(grey(4), grey(64)))) == (0, 0, 0))
+    yield "the last of equal pixels in a row", content_light.measure(narrow(row_bytes(bright, dim, bright, dim))) == (2_249, 0, 2)
+    yield "the last of equal rows", content_light.measure(
+        narrow(row_bytes(dim, bright), row_bytes(bright, dim), row_bytes(dim, dim))) == (2_249, 1, 0)
+    yield "super-whites tie with 940, sub-blacks with 64", all(
+        content_light.measure(narrow(row_bytes(*map(grey, codes)))) == (peak, 0, 1)
+        for peak, codes in ((10_000, (940, 1_019)), (10_000, (1_019, 940)), (0, (4, 64)), (0, (64, 4))))
+    yield "black ties with the positions up to 3, which have its light, and not with 4", [
+        content_light.measure_row(content_light.Record(9, 9, position, 3, 3), row_bytes(grey(64))).row for position in range(6)] == [9, 9, 9, 9, 3, 3]
     some = narrow(b"", row_bytes(grey(3)), b"\0", row_bytes(dim))
     yield "a refused row is not numbered", content_light.measure(some) == (100, 1, 0) == (
         content_light.measured_peak(steps(content_light.Record(), some)[0]))
@@ -545,10 +547,34 @@ def mixed_lists():
     yield from laws_of_lists(random, [draw_list(random, FORMATS) for _ in range(1_500)])
 
 
+def brightest_places(rows):
+    """Row and pixel of all that have the largest light of sound rows."""
+    lights = {(i, j): light.light_of_code(max(pixel), form)
+              for i, (data, form) in enumerate(rows) for j, pixel in enumerate(row.pixels_of(row.samples_of(data)))}
+    return [place for place, each in lights.items() if each == max(lights.values())]
+
+
+def former_answer(rows):
+    """What sound rows measured before request 09, pixel by pixel: a later one took over only with more light."""
+    best = None
+    for i, (data, form) in enumerate(rows):
+        for j, pixel in enumerate(row.pixels_of(row.samples_of(data))):
+            each = light.light_of_code(max(pixel), form)
+            if best is None or each > best[0]:
+                best = each, i, j
+    return -(-best[0] // N), *best[1:]
+
+
 def laws_of_lists(random, lists):
     yield "the record gives what the whole list gives, refusals included", all(map(both_ways, lists))
     yield "also where the rows come to their end", all(both_ways(rows, MOST_ROWS - random.randrange(7)) for rows in lists)
     sound = [[each for each, refused in zip(rows, content_light.refusals(rows)) if refused is None] for rows in lists]
+    shares = [(outcome(content_light.measure, rows), brightest_places(rows)) for rows in sound if any(data for data, _ in rows)]
+    yield "of the pixels that share the largest light the last is told, and some lists have several", all(
+        given[1:] == max(places) for given, places in shares) and any(len(places) > 1 for _, places in shares)
+    yield "request 09 changes the place where several share it, and nowhere else", all(
+        (given != former_answer(rows)) == (len(places) > 1) and given[0] == former_answer(rows)[0]
+        for (given, places), rows in zip(shares, (rows for rows in sound if any(data for data, _ in rows))))
     yield "refused rows change nothing", all(
         outcome(content_light.measure, rows) == outcome(content_light.measure, kept) for rows, kept in zip(lists, sound))
     peaks = [(outcome(content_light.measure, rows)[0], [(max(pixel), form) for data, form in rows for pixel in row.pixels_of(row.samples_of(data))])
@@ -884,15 +910,17 @@ def measured_formats():
     first = row_bytes(grey(700)), TEN_NARROW
     same = row_bytes(grey(2_800)), TWELVE_NARROW
     more = row_bytes(grey(2_801)), TWELVE_NARROW
-    yield "rows of two formats tie by their lights", content_light.measure([first, same]) == content_light.measure([same, first]) == (790, 0, 0)
+    yield "rows of two formats tie by their lights", content_light.measure([first, same]) == content_light.measure([same, first]) == (790, 1, 0)
     yield "and a brighter one takes over", content_light.measure([first, more]) == (792, 1, 0)
     whites = [(row_bytes(grey(form.taken[-1])), form) for form in FORMATS]
     blacks = [(row_bytes(grey(form.taken[0])), form) for form in FORMATS]
     yield "the highest codes tie in all formats, and so do the lowest", all(
-        content_light.measure(rows[i:] + rows[:i]) == (peak, 0, 0) for rows, peak in ((whites, 10_000), (blacks, 0)) for i in range(4))
+        content_light.measure(rows[i:] + rows[:i]) == (peak, 3, 0) for rows, peak in ((whites, 10_000), (blacks, 0)) for i in range(4))
     yield "a code beside a record's position, whatever made that", all(
-        content_light.measure_row(content_light.Record(1, 1, q + beside, 0, 0), row_bytes(grey(D)), form).row == (1 if beside < 0 else 0)
-        for form in FORMATS for D in form.nominal[1::37] for q in [form.position(D)] for beside in (-1, 0, 1))
+        content_light.measure_row(content_light.Record(1, 1, q + beside, 0, 0), row_bytes(grey(D)), form).row == (1 if beside <= 0 else 0)
+        for form in FORMATS for D in form.nominal[3::37] for q in [form.position(D)] for beside in (-1, 0, 1))
+    yield "the last position that shares the light of the darkest codes, and of the third entry of the table", [
+        max(p for p in range(600) if light.light_at(p) == light.light_at(q)) for q in (0, 219, 256, 438, 512)] == [3, 221, 257, 439, 512]
 
 
 # Request 08: the return path

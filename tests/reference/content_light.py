@@ -1,4 +1,4 @@
-"""Requests 01 and 06: the largest component light of a list of rows, and where it first occurs.
+"""Requests 01, 06 and 09: the largest component light of a list of rows, and where it last occurs.
 
 Twice: over the whole list at once, and by a record that is carried from row to row. Neither is made from the other.
 A row is bytes, and comes with the format of its samples. The peak is in whole cd/m2, lights are in units (N to 1 cd/m2); rows and pixels count from 0.
@@ -40,7 +40,7 @@ def measure(rows, empty=0):
     if not lights:
         raise Refused(12)
     largest = max(light for light, _, _ in lights)
-    number, place = min((number, place) for light, number, place in lights if light == largest)
+    number, place = max((number, place) for light, number, place in lights if light == largest)
     return -(-largest // N), number, place
 
 
@@ -73,7 +73,7 @@ def measure_row(record, row, form=TEN_NARROW):
     refuse_samples(samples, form)
     given = pixels_of(samples)
     for place, pixel in enumerate(given):
-        if (pixels == place == 0) or light_of_code(max(pixel), form) > light_at(position):
+        if (pixels == place == 0) or light_of_code(max(pixel), form) >= light_at(position):
             position = form.position(max(pixel))
             brightest_row, brightest_pixel = rows, place
     return Record(rows + 1, min(pixels + len(given), MOST_PIXELS), position, brightest_row, brightest_pixel)

@@ -202,6 +202,11 @@ def format_records():
         for D in (black + 1, black + 2, middle, middle + 1, white - 1, white):
             for beside in (-1, 0, 1):
                 yield number, (9, 9, form.position(D) + beside, 3, 3), row(grey(black), grey(D), (black, D, black))
+    # positions near black, where several have one light, and about the third entry of the light table
+    for form in FORMATS:
+        for position in (*range(5), *range(217, 224), *range(254, 260), *range(436, 442), *range(510, 515)):
+            for D in (form.black, form.black + 1, form.black + 2):
+                yield form.number, (9, 9, position, 3, 3), row(grey(D))
     # bits that are not read
     for form in FORMATS:
         for unread in (0x07, 0xE0, 0xE7):
@@ -224,5 +229,5 @@ def mixed_runs():
         for rows, (number, D) in enumerate(codes):
             yield number, (rows, rows, max(brightest, 0), at, 0), row(grey(D))
             position = format_of(number).position(D)
-            if position > brightest:
+            if position >= brightest:
                 brightest, at = position, rows

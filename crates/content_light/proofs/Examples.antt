@@ -1,18 +1,18 @@
--- Small titles, computed: what black, the first code above it, the codes about 1,000 cd/m2 and those from full signal on measure; which row is told;
--- and a record that has counted all rows.
+-- Small titles, computed: what black, the first code above it, the codes about 1,000 cd/m2 and those from full signal on measure; which row and which
+-- pixel is told; and records that no run makes.
 use mathlib.Core.Path.{_≡_, refl}
-use mathlib.Core.List.{[], _∷_}
+use mathlib.Core.List.{[], _∷_, _++_}
 use Prim.Native.Nat.{ℕ}
-use Rattle.quantity.specs.Units.{units}
+use Rattle.quantity.specs.Units.{units, lastPosition}
 use Rattle.quantity.specs.declared.sample_format.Depth.the-variants.{Ten, Twelve}
 use Rattle.quantity.specs.declared.sample_format.Range.the-variants.{Narrow, Full}
 use Rattle.quantity.specs.SampleFormat.{coded}
-use Rattle.quantity.specs.Component.{pixel}
+use Rattle.quantity.specs.Component.{Pixel, pixel}
 use Rattle.pq.specs.LightTable.{lightTable, lightEntry}
 use Rattle.big_endian.specs.BigEndian.{numberAt}
 use Rattle.position.specs.Position.{lightAt}
 use Rattle.position.specs.Code.{codeLight}
-use Rattle.pixel.specs.Conversion.{brightestLight}
+use Rattle.pixel.specs.Conversion.{brightestLight, brightestPosition}
 use Rattle.rows.specs.Row.{sampleAt, pixelBytes}
 use Rattle.rows.specs.Answer.{outside, firstRefused, lengthRefused}
 use Rattle.content_light.specs.declared.RunRecord.{RunRecord}
@@ -20,11 +20,15 @@ use Rattle.content_light.specs.declared.PeakAnswer.the-variants.{Peak, R
 use Rattle.content_light.specs.declared.RecordAnswer.the-variants as answer
 use Rattle.content_light.specs.Peak.{CodedRow, rowIn, mostRows, rowTest}
 use Rattle.content_light.specs.Peak.{acceptedRows, outshines, after, afterPixels, afterRows, roundedUp, peakOf, measured}
-use Rattle.content_light.specs.Run.{recordAnswer}
+use Rattle.content_light.specs.Run.{mostPixels, takesOver, withPixel, withPixels, withRow, recordAnswer}
 
 -- a row of one red pixel of that code
 abbrev rowOf : ℕ → CodedRow
 rowOf D = rowIn (coded Ten Narrow) (pixelBytes (pixel D 64 64))
+
+-- one of three pixels
+abbrev threePixels : Pixel → Pixel → Pixel → CodedRow
+threePixels p q r = rowIn (coded Ten Narrow) (pixelBytes p ++ pixelBytes q ++ pixelBytes r)
 
 -- and one of none
 abbrev empty : CodedRow
@@ -39,12 +43,14 @@ pub record Examples : Type 0 where
   pub past-signal : measured (rowOf 1019 ∷ []) ≡ Peak 10000 0 0
   pub earlier-row : measured (rowOf 722 ∷ rowOf 65 ∷ []) ≡ Peak 994 0 0
   pub later-row : measured (rowOf 65 ∷ rowOf 722 ∷ []) ≡ Peak 994 1 0
-  pub equal-light : measured (rowOf 940 ∷ rowOf 1019 ∷ []) ≡ Peak 10000 0 0
+  pub equal-light : measured (rowOf 940 ∷ rowOf 1019 ∷ []) ≡ Peak 10000 1 0
+  pub equal-blacks : measured (rowOf 64 ∷ rowOf 4 ∷ []) ≡ Peak 0 1 0
+  pub equal-pixels : measured (threePixels (pixel 722 64 64) (pixel 64 722 64) (pixel 721 721 721) ∷ []) ≡ Peak 994 0 1
   pub refused-row : measured (rowOf 3 ∷ rowOf 722 ∷ []) ≡ Peak 994 0 0
   pub empty-row : measured (empty ∷ rowOf 722 ∷ []) ≡ Peak 994 1 0
   pub twelve-bits : measured (rowIn (coded Twelve Narrow) (pixelBytes (pixel 2888 256 256)) ∷ []) ≡ Peak 994 0 0
   pub full-range : measured (rowIn (coded Twelve Full) (pixelBytes (pixel 4095 0 0)) ∷ []) ≡ Peak 10000 0 0
-  pub equal-formats : measured (rowOf 722 ∷ rowIn (coded Twelve Narrow) (pixelBytes (pixel 2888 256 256)) ∷ []) ≡ Peak 994 0 0
+  pub equal-formats : measured (rowOf 722 ∷ rowIn (coded Twelve Narrow) (pixelBytes (pixel 2888 256 256)) ∷ []) ≡ Peak 994 1 0
   pub brighter-format : measured (rowOf 722 ∷ rowIn (coded Ten Full) (pixelBytes (pixel 769 0 0)) ∷ []) ≡ Peak 999 1 0
   pub no-pixel : measured (empty ∷ []) ≡ Refused 12
 
@@ -62,6 +68,8 @@ examples =
       earlier-row = refl;
       later-row = refl;
       equal-light = refl;
+      equal-blacks = refl;
+      equal-pixels = refl;
       refused-row = refl;
       empty-row = refl;
       twelve-bits = refl;
@@ -71,10 +79,20 @@ examples =
       no-pixel = refl;
     }
 
--- a record that stands there refuses 13, also a row that would be refused otherwise
+-- a record that has counted all rows refuses 13, also a row that would be refused otherwise
 abbrev allRows : RunRecord
 allRows = record { rows = 4294967295; pixels = 1; position = record { 0 = 0 }; row = 0; pixel = 0 }
 
 pub full-record : (row : CodedRow) → recordAnswer allRows row ≡ answer.Refused 13 0
 unfolding mostRows rowTest recordAnswer
 full-record row = refl
+
+-- a record at position 3, which no code has, with the light of black: black takes over
+abbrev darkRecord : RunRecord
+darkRecord = record { rows = 9; pixels = 9; position = record { 0 = 3 }; row = 3; pixel = 3 }
+
+pub dark-record :
+    recordAnswer darkRecord (rowOf 64) ≡ answer.Measured (record { rows = 10; pixels = 10; position = record { 0 = 0 }; row = 9; pixel = 0 })
+unfolding lightTable lightEntry numberAt lightAt brightestPosition sampleAt pixelBytes outside firstRefused lengthRefused mostRows mostPixels rowTest
+    outshines takesOver withPixel withPixels withRow recordAnswer lastPosition
+dark-record = refl

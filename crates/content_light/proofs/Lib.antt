@@ -6,6 +6,6 @@ pub mod AnswerLaws
 pub mod RangeLaws
 pub mod RunLaws
 pub mod BrightestLaws
-pub mod FirstLaws
+pub mod LastLaws
 pub mod PeakLaws
 pub mod Examples

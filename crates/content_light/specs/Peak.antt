@@ -1,5 +1,6 @@
--- The measured peak of a title's rows (request 01; request 06, depth and range with each row): which rows are accepted, the first pixel that has the
--- largest component light of all their pixels, and the peak, that light in whole cd/m2. Light is in units; rows and pixels are counted from 0.
+-- The measured peak of a title's rows (request 01; request 06, depth and range with each row; request 09, the last of equals): which rows are
+-- accepted, the last pixel that has the largest component light of all their pixels, and the peak, that light in whole cd/m2. Light is in units; rows
+-- and pixels are counted from 0.
 use Prim.Native.Nat.{ℕ, zero, suc, pred, _+_, _/_}
 use mathlib.Core.Bool.{Bool, cond}
 use mathlib.Core.List.{List, [], _∷_}
@@ -69,9 +70,9 @@ acceptedRows rows (row ∷ later) = let t = rowTest rows row in kept t row (acce
 abbrev pub lightOf : CodedRow → ℕ → ℕ
 lightOf row j = brightestLight (row .format) (pixelAt (row .bytes) j)
 
--- Which of equals: the first. A later pixel outshines the one found before only by more light.
+-- Which of equals: the last. A later pixel outshines the one found before unless it has less light.
 unfoldable pub outshines : ℕ → ℕ → Bool
-outshines light found = ltb found light
+outshines light found = leb found light
 
 -- the brightest pixel found so far: its light, its row and its place there
 pub data Brightest : Type 0 where

@@ -1,4 +1,4 @@
-// The measuring run over a title's rows: the largest component light of all pixels, which is the title's MaxCLL, and where it stands first. A record
+// The measuring run over a title's rows: the largest component light of all pixels, which is the title's MaxCLL, and where it stands last. A record
 // is carried from row to row; every record that can be made is read, a field past its range at the range's end.
 mod rank;
 mod walk;

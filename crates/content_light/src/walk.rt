@@ -180,7 +180,7 @@ fn outshines(m: Position, found: Position) -> bool
     requires { ⌜ (m .0 ≤ lastPosition) × (found .0 ≤ lastPosition) ⌝ }
     ensures { λ r. ⌜ r ≡ outshines (lightAt (m .0)) (lightAt (found .0)) ⌝ }
 {
-    if light_rank(found) < light_rank(m) {
+    if light_rank(found) <= light_rank(m) {
         return true;
     }
     false
