@@ -21,6 +21,8 @@ use Rattle.content_light.specs.declared.RecordAnswer.the-variants as ans
 use Rattle.content_light.specs.Peak.{CodedRow, rowIn, mostRows, rowTest}
 use Rattle.content_light.specs.Peak.{acceptedRows, outshines, after, afterPixels, afterRows, roundedUp, peakOf, measured}
 use Rattle.content_light.specs.Run.{mostPixels, takesOver, withPixel, withPixels, withRow, recordAnswer}
+use Rattle.content_light.proofs.BrightestLaws.{afterBy, afterPixelsBy, afterRowsBy}
+use Rattle.content_light.proofs.EqualLightLaws.{formerlyMeasured}
 
 -- a row of one red pixel of that code
 abbrev rowOf : ℕ → CodedRow
@@ -44,6 +46,7 @@ pub record Examples : Type 0 where
   pub earlier-row : measured (rowOf 722 ∷ rowOf 65 ∷ []) ≡ Peak 994 0 0
   pub later-row : measured (rowOf 65 ∷ rowOf 722 ∷ []) ≡ Peak 994 1 0
   pub equal-light : measured (rowOf 940 ∷ rowOf 1019 ∷ []) ≡ Peak 10000 1 0
+  pub equal-light-before : formerlyMeasured (rowOf 940 ∷ rowOf 1019 ∷ []) ≡ Peak 10000 0 0
   pub equal-blacks : measured (rowOf 64 ∷ rowOf 4 ∷ []) ≡ Peak 0 1 0
   pub equal-pixels : measured (threePixels (pixel 722 64 64) (pixel 64 722 64) (pixel 721 721 721) ∷ []) ≡ Peak 994 0 1
   pub refused-row : measured (rowOf 3 ∷ rowOf 722 ∷ []) ≡ Peak 994 0 0
@@ -56,7 +59,7 @@ pub record Examples : Type 0 where
 
 pub examples : Examples
 unfolding units lightTable lightEntry numberAt lightAt codeLight brightestLight sampleAt pixelBytes outside firstRefused lengthRefused mostRows rowTest
-    acceptedRows outshines after afterPixels afterRows roundedUp peakOf measured
+    acceptedRows outshines after afterPixels afterRows roundedUp peakOf measured afterBy afterPixelsBy afterRowsBy formerlyMeasured
 examples =
     record {
       black = refl;
@@ -68,6 +71,7 @@ examples =
       earlier-row = refl;
       later-row = refl;
       equal-light = refl;
+      equal-light-before = refl;
       equal-blacks = refl;
       equal-pixels = refl;
       refused-row = refl;

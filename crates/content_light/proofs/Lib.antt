@@ -7,5 +7,6 @@ pub mod RangeLaws
 pub mod RunLaws
 pub mod BrightestLaws
 pub mod LastLaws
+pub mod EqualLightLaws
 pub mod PeakLaws
 pub mod Examples
