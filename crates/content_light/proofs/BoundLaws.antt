@@ -1,10 +1,11 @@
 -- What bounds of a row's samples show: that every sample is taken, and how bright a pixel can be.
-use mathlib.Core.Path.{_≡_, ap, subst, _∙_}
+use mathlib.Core.Path.{_≡_, refl, sym, ap, subst, _∙_}
+use mathlib.Core.Logic.{_⊎_, inl, inr}
 use mathlib.Core.Bool.{Bool, false}
 use mathlib.Core.List.{List}
 use Prim.Native.Nat.{ℕ, zero, suc, max, min, _+_, _-_, _*_, _/_, _≤_, _<_, zero-le}
 use lib.ListN.{length}
-use native.Mathlib.Decide.{decLt}
+use native.Mathlib.Decide.{decLe, decLt}
 use native.Mathlib.Omega.{arith}
 use borrow.Author.Tests.{le-ltb}
 use Rattle.quantity.specs.Component.{pixel, brightest}
@@ -13,8 +14,8 @@ use Rattle.rows.specs.Answer.{outside, firstRefused}
 use Rattle.content_light.specs.Bounds.{Bounded}
 
 -- ---- bounds pixel by pixel
-pub no-pixel-bounded : (row : List ℕ) (least most : ℕ) → Bounded row 0 least most
-no-pixel-bounded row least most = record { above = λ i h. absurd (omega arith); below = λ i h. absurd (omega arith) }
+pub no-pixel-bounded : (row : List ℕ) (least : ℕ) → Bounded row 0 least 0
+no-pixel-bounded row least = record { above = λ i h. absurd (omega arith); below = λ i h. absurd (omega arith); reached = inl (refl, refl) }
 
 -- the last three samples, or one before them
 last-three : (P : ℕ → Type 0) (n : ℕ) → ((i : ℕ) → i < 3 * n → P i) → P (3 * n) → P (3 * n + 1) → P (3 * n + 2) → (i : ℕ) → i < 3 * (n + 1) → P i
@@ -35,10 +36,19 @@ next-bounded {row} {n} {least} {most} {r} {g} {b} x p q s =
     record {
       above = last-three (λ i. low ≤ sampleAt row i) n (λ i h. let k = x .above i h in omega arith) (omega arith) (omega arith) (omega arith);
       below = last-three (λ i. sampleAt row i ≤ high) n (λ i h. let k = x .below i h in omega arith) (omega arith) (omega arith) (omega arith);
+      reached = go (x .reached) (decLe most (brightest (pixel r g b)));
     }
+  where
+    -- the new pixel reaches the most, or one before it does
+    go : ((n ≡ 0) × (most ≡ 0)) ⊎ ((j : ℕ) × (j < n) × (brightest (pixelAt row j) ≡ most)) → Dec (most ≤ brightest (pixel r g b))
+        → ((n + 1 ≡ 0) × (max most (brightest (pixel r g b)) ≡ 0))
+        ⊎ ((j : ℕ) × (j < n + 1) × (brightest (pixelAt row j) ≡ max most (brightest (pixel r g b))))
+    go old (yes l) = inr (n, omega arith, rw (sym p, sym q, sym s) (omega arith))
+    go (inl (e, z)) (no l) = absurd (omega arith)
+    go (inr (j, h, e)) (no l) = inr (j, omega arith, omega (arith, e))
 
 pub from-zero : {row : List ℕ} {n least most : ℕ} → Bounded row n least most → Bounded row n 0 most
-from-zero x = record { above = λ i h. zero-le; below = x .below }
+from-zero x = record { above = λ i h. zero-le; below = x .below; reached = x .reached }
 
 -- ---- what they show
 -- no sample is refused

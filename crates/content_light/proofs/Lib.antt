@@ -2,6 +2,7 @@ pub mod RankLaws
 pub mod OutshinesLaws
 pub mod BoundLaws
 pub mod RecordLaws
+pub mod SearchLaws
 pub mod AnswerLaws
 pub mod RangeLaws
 pub mod RunLaws

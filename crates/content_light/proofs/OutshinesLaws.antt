@@ -28,6 +28,15 @@ pub dimmer : (light brighter found : ℕ) → light ≤ brighter → outshines b
 unfolding outshines
 dimmer light brighter found h e = lt-leb found light (omega (arith, leb-false found brighter e))
 
+-- one that is as bright does; where a light does not outshine, it does not outshine a brighter one
+pub as-bright : (light found : ℕ) → found ≤ light → outshines light found ≡ true
+unfolding outshines
+as-bright light found h = le-leb found light h
+
+pub dimmer-still : (light found brighter : ℕ) → found ≤ brighter → outshines light found ≡ false → outshines light brighter ≡ false
+unfolding outshines
+dimmer-still light found brighter h e = lt-leb brighter light (omega (arith, leb-false found light e))
+
 -- positions by their ranks
 module _ (m found : ℕ) where
   pub as-high-outshines : lightRank found ≤ lightRank m → true ≡ outshines (lightAt m) (lightAt found)

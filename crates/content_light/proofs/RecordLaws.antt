@@ -1,8 +1,7 @@
 -- Laws of a record with more pixels: what stays, how a row goes in that no pixel of which takes over, and what its numbers are as 64-bit ones.
-use mathlib.Core.Path.{_≡_, refl, sym, ap, _∙_}
+use mathlib.Core.Path.{_≡_, refl, sym, ap, subst, _∙_}
 use mathlib.Core.Bool.{Bool, true, false, cond}
 use Prim.Native.Nat.{ℕ, zero, suc, min, _+_, _≤_, _<_}
-use native.Mathlib.Numerals.{add-one}
 use native.Mathlib.Omega.{arith}
 use lib.Dec.{eqb}
 use borrow.Author.Tests.{eqb-false, eq-eqb, ne-eqb}
@@ -56,15 +55,6 @@ unfolding withPixel
 left-alone r m j t e = rw e (sym (simp t))
 
 -- ---- the pixels of a row
-pub no-pixel : (r : RunRecord) (row : CodedRow) → r ≡ withPixels r row 0
-unfolding withPixels
-no-pixel r row = refl
-
-pub next-pixel : (r : RunRecord) (row : CodedRow) (n : ℕ) {s : RunRecord} {m : ℕ} → s ≡ withPixels r row n → m ≡ positionOf row n
-    → withPixel s m n ≡ withPixels r row (n + 1)
-unfolding withPixels
-next-pixel r row n p q = rw (p, q, add-one n)
-
 -- what holds of both records holds of the one that is chosen
 pub chosen : (P : RunRecord → Type 0) (b : Bool) (x y : RunRecord) → P x → P y → P (cond b x y)
 chosen P true x y p q = p
@@ -92,37 +82,50 @@ abbrev pub countingOn : RunRecord → ℕ → RunRecord
 countingOn r n = counting r (min (r .pixels + n) mostPixels)
 
 -- the light at the position of a pixel's brightest code is at most that of the bound
-light-bounded : (row : CodedRow) {n least most : ℕ} → Bounded (row .bytes) n least most → (j : ℕ) → j < n
+pub light-bounded : (row : CodedRow) {n least most : ℕ} → Bounded (row .bytes) n least most → (j : ℕ) → j < n
     → lightAt (positionOf row j) ≤ lightAt (codePosition (row .format) most)
 unfolding brightestPosition
 light-bounded row {n} {least} {most} b j h =
     light-grows _ _ (code-position-grows (row .format) (brightest (pixelAt (row .bytes) j)) most (brightest-bounded b j h))
 
--- Where a pixel of the bound itself would not take over, the row's pixels only count.
+-- Pixels from the nth on that would not take over from the record then are only counted.
+pub rest-counted : (r : RunRecord) (row : CodedRow) (n : ℕ) → (withPixels r row n .pixels ≡ 0 → ⊥) → withPixels r row n .pixels ≤ mostPixels
+    → (d : ℕ) → ((k : ℕ) → n ≤ k → k < n + d → outshines (lightAt (positionOf row k)) (lightAt (withPixels r row n .position .0)) ≡ false)
+    → withPixels r row (n + d) ≡ countingOn (withPixels r row n) d
+unfolding takesOver withPixels withPixel
+rest-counted r row n p q zero h =
+    let s = withPixels r row n in
+    let count : s .pixels ≡ min (s .pixels + 0) mostPixels = omega arith in
+    let all : n + 0 ≡ n = omega arith in
+    rw all (ap (counting s) count)
+rest-counted r row n p q (suc d) h =
+    let next : n + suc d ≡ suc (n + d) = omega arith in
+    rw next (ap (λ (s : RunRecord). withPixel s m (n + d)) (rest-counted r row n p q d (λ k x y. h k x (omega arith))) ∙ step)
+  where
+    s : RunRecord
+    s = withPixels r row n
+
+    m : ℕ
+    m = positionOf row (n + d)
+
+    some : eqb (min (s .pixels + d) mostPixels) 0 ≡ false
+    some = ne-eqb _ 0 (λ (z : min (s .pixels + d) mostPixels ≡ 0). p (omega (arith, most-pixels)))
+
+    step : withPixel (countingOn s d) m (n + d) ≡ countingOn s (suc d)
+    step =
+        let e : min (suc (min (s .pixels + d) mostPixels)) mostPixels ≡ min (s .pixels + suc d) mostPixels = omega arith in
+        simp (some, h (n + d) (omega arith) (omega arith)) (ap (counting s) e)
+
+-- So are all of a row where a pixel of the bound itself would not take over.
 pub only-counted : (r : RunRecord) (row : CodedRow) {n most : ℕ} → Bounded (row .bytes) n 0 most → r .pixels ≤ mostPixels
     → takesOver r (codePosition (row .format) most) ≡ false
     → (k : ℕ) → k ≤ n → withPixels r row k ≡ countingOn r k
-unfolding takesOver withPixels withPixel
-only-counted r row {n} {most} b p t zero h = let e : r .pixels ≡ min (r .pixels + 0) mostPixels = omega arith in ap (counting r) e
-only-counted r row {n} {most} b p t (suc k) h =
-    ap (λ (s : RunRecord). withPixel s m k) (only-counted r row b p t k (omega arith)) ∙ step
-  where
-    m : ℕ
-    m = positionOf row k
-
-    none : (eqb (r .pixels) 0 ≡ false) × (outshines (lightAt (codePosition (row .format) most)) (lightAt (r .position .0)) ≡ false)
-    none = neither _ _ t
-
-    some : eqb (min (r .pixels + k) mostPixels) 0 ≡ false
-    some = ne-eqb _ 0 (λ (z : min (r .pixels + k) mostPixels ≡ 0). eqb-false (r .pixels) 0 (none .0) (omega (arith, most-pixels)))
-
-    dim : outshines (lightAt m) (lightAt (r .position .0)) ≡ false
-    dim = dimmer _ _ _ (light-bounded row b k (omega arith)) (none .1)
-
-    step : withPixel (countingOn r k) m k ≡ countingOn r (suc k)
-    step =
-        let e : min (suc (min (r .pixels + k) mostPixels)) mostPixels ≡ min (r .pixels + suc k) mostPixels = omega arith in
-        simp (some, dim) (ap (counting r) e)
+unfolding takesOver withPixels
+only-counted r row {n} {most} b p t k h =
+    let none : (eqb (r .pixels) 0 ≡ false) × (outshines (lightAt (codePosition (row .format) most)) (lightAt (r .position .0)) ≡ false) = neither _ _ t in
+    let all : 0 + k ≡ k = omega arith in
+    subst (λ (j : ℕ). withPixels r row j ≡ countingOn r k) all
+    (rest-counted r row 0 (eqb-false (r .pixels) 0 (none .0)) p k (λ j x y. dimmer _ _ _ (light-bounded row b j (omega arith)) (none .1)))
 
 -- ---- the result
 pub no-peak : (r : RunRecord) → recordRead r .pixels ≡ 0 → Refused 12 ≡ peakAnswer r

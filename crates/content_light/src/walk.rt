@@ -1,7 +1,7 @@
 // A row's pixels counted into a record. Bounds of all samples come first, in one pass: they show most rows to be taken, and most rows to have no pixel
-// that outshines the record's, which then needs no walk over the pixels.
+// that outshines the record's. In the others the last pixel that reaches the bound becomes the record's, and is searched for from the row's end.
 ghost use mathlib.Core.Path.{_≡_};
-ghost use Prim.Native.Nat.{suc, min, _/_, _%_, _≤_, _<_};
+ghost use Prim.Native.Nat.{_/_, _%_, _≤_, _<_};
 ghost use lib.ListN.{length};
 ghost use Rattle.quantity.specs.Units.{lastPosition};
 ghost use Rattle.position.specs.Position.{lightAt};
@@ -10,8 +10,8 @@ ghost use Rattle.rows.specs.Row.{pixelAt};
 ghost use Rattle.rows.specs.Answer.{firstRefused};
 ghost use Rattle.pq_hlg.specs.Pixel.{sampleRefused};
 ghost use Rattle.content_light.specs.Peak.{rowIn, mostRows, outshines};
-ghost use Rattle.content_light.specs.Run.{mostPixels, takesOver, withPixel, withPixels, withRow};
-ghost use Rattle.content_light.specs.Bounds.{Bounded};
+ghost use Rattle.content_light.specs.Run.{mostPixels, takesOver, withPixels, withRow};
+ghost use Rattle.content_light.specs.Bounds.{Bounded, LastReaching};
 use crate::MOST_PIXELS;
 use crate::RunRecord;
 use crate::rank::light_rank;
@@ -89,36 +89,50 @@ pub(crate) fn with_row(run: RunRecord, format: SampleFormat, row: &[u8], most: u
     }
 }
 
+// The same before the row itself is counted. Where a pixel as bright as the bound takes over, it is the last such pixel; a row of no pixel has none.
 fn with_pixels(run: RunRecord, format: SampleFormat, row: &[u8], most: u64) -> RunRecord
     requires { ⌜ (run .pixels ≤ mostPixels) × (run .position .0 ≤ lastPosition) × (length (now row) ≤ 49152)
         × Bounded (now row) (length (now row) / 6) 0 most ⌝ }
     ensures { λ r. ⌜ r ≡ withPixels run (rowIn format (now (row .entry))) (length (now (row .entry)) / 6) ⌝ }
 {
-    if takes_over(run, code_position(format, most)) {
-        return walk_pixels(run, format, row);
+    let m = code_position(format, most);
+    let pixels = smaller(run.pixels + (row.len() / 6) as u64, MOST_PIXELS);
+    if takes_over(run, m) {
+        let count = last_reaching(format, row, m);
+        if count == 0 {
+            return run;
+        }
+        return RunRecord {
+            rows: run.rows,
+            pixels: pixels,
+            position: brightest_position(format, row, count - 1),
+            row: run.rows,
+            pixel: (count - 1) as u64,
+        };
     }
     let position = run.position;
     RunRecord {
         rows: run.rows,
-        pixels: smaller(run.pixels + (row.len() / 6) as u64, MOST_PIXELS),
+        pixels: pixels,
         position: position,
         row: run.row,
         pixel: run.pixel,
     }
 }
 
-fn walk_pixels(run: RunRecord, format: SampleFormat, row: &[u8]) -> RunRecord
-    requires { ⌜ run .position .0 ≤ lastPosition ⌝ }
-    ensures { λ r. ⌜ r ≡ withPixels run (rowIn format (now (row .entry))) (length (now (row .entry)) / 6) ⌝ }
+// How many pixels there are up to the last one whose brightest code reaches the position m; 0 where none does.
+fn last_reaching(format: SampleFormat, row: &[u8], m: Position) -> usize
+    requires { ⌜ m .0 ≤ lastPosition ⌝ }
+    ensures { λ r. ⌜ LastReaching (rowIn format (now (row .entry))) (length (now (row .entry)) / 6) (m .0) r ⌝ }
 {
-    let pixels = row.len() / 6;
-    let mut found = run;
-    let mut j = 0;
-    while j < pixels {
-        found = with_pixel(found, brightest_position(format, row, j), j as u64);
-        j += 1;
+    let mut count = row.len() / 6;
+    while 0 < count {
+        if outshines(brightest_position(format, row, count - 1), m) {
+            return count;
+        }
+        count -= 1;
     }
-    found
+    0
 }
 
 // The position of the brightest code of pixel j.
@@ -130,38 +144,6 @@ fn brightest_position(format: SampleFormat, row: &[u8], j: usize) -> Position
     let g = sample_at(row, 3 * j + 1);
     let b = sample_at(row, 3 * j + 2);
     code_position(format, brightest_of(r, g, b))
-}
-
-fn with_pixel(run: RunRecord, m: Position, j: u64) -> RunRecord
-    requires { ⌜ (run .position .0 ≤ lastPosition) × (m .0 ≤ lastPosition) ⌝ }
-    ensures { λ r. ⌜ r ≡ withPixel run (m .0) j ⌝ }
-{
-    if takes_over(run, m) {
-        return RunRecord {
-            rows: run.rows,
-            pixels: one_more(run.pixels),
-            position: m,
-            row: run.rows,
-            pixel: j,
-        };
-    }
-    let position = run.position;
-    RunRecord {
-        rows: run.rows,
-        pixels: one_more(run.pixels),
-        position: position,
-        row: run.row,
-        pixel: run.pixel,
-    }
-}
-
-fn one_more(pixels: u64) -> u64
-    ensures { λ r. ⌜ r ≡ min (suc pixels) mostPixels ⌝ }
-{
-    if pixels < MOST_PIXELS {
-        return pixels + 1;
-    }
-    MOST_PIXELS
 }
 
 // Whether a pixel whose brightest code has the position m becomes the record's.
@@ -176,6 +158,7 @@ fn takes_over(run: RunRecord, m: Position) -> bool
     outshines(m, position)
 }
 
+// Whether the light at m outshines the one found: the ranks compare as they do.
 fn outshines(m: Position, found: Position) -> bool
     requires { ⌜ (m .0 ≤ lastPosition) × (found .0 ≤ lastPosition) ⌝ }
     ensures { λ r. ⌜ r ≡ outshines (lightAt (m .0)) (lightAt (found .0)) ⌝ }

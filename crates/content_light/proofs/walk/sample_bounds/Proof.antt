@@ -43,7 +43,7 @@ sample-bounds-spec =
     (tie.spec
     Inv-loop
     μ-loop
-    (λ c. (no-pixel-bounded _ _ _, omega arith))
+    (λ c. (no-pixel-bounded _ _, omega arith))
     (λ c. omega arith)
     (λ c. omega arith)
     (λ c. omega arith)
