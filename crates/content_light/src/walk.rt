@@ -140,9 +140,12 @@ fn brightest_position(format: SampleFormat, row: &[u8], j: usize) -> Position
     requires { ⌜ j < length (now row) / 6 ⌝ }
     ensures { λ r. ⌜ r .0 ≡ brightestPosition format (pixelAt (now (row .entry)) j) ⌝ }
 {
-    let r = sample_at(row, 3 * j);
-    let g = sample_at(row, 3 * j + 1);
-    let b = sample_at(row, 3 * j + 2);
+    // read from a part of six bytes, whose length needs no test
+    let at = 6 * j;
+    let next = at + 6;
+    let r = sample_at(&row[at..next], 0);
+    let g = sample_at(&row[at..next], 1);
+    let b = sample_at(&row[at..next], 2);
     code_position(format, brightest_of(r, g, b))
 }
 
