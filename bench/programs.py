@@ -32,7 +32,7 @@ def write_title(folder, picture, width):
     return path
 
 
-def time_program(program, path):
+def time_program(program, path, pixels=PIXELS):
     """Nanoseconds a pixel of one run, user and system time of the process."""
     with open(path, "rb") as title:
         run = subprocess.Popen([program], stdin=title, stdout=subprocess.DEVNULL)
@@ -40,7 +40,7 @@ def time_program(program, path):
         run.returncode = os.waitstatus_to_exitcode(status)
     if run.returncode:
         raise SystemExit(f"{program} ended with {run.returncode} on {path}")
-    return 1e9 * (used.ru_utime + used.ru_stime) / PIXELS
+    return 1e9 * (used.ru_utime + used.ru_stime) / pixels
 
 
 def time_rows(folder, picture, width):
