@@ -50,6 +50,10 @@ pub record BrightestAt (rows : List CodedRow) (light row pixel : ℕ) : Type 0 w
   pub has : lightOf (rowAt rows row) pixel ≡ light
   pub most : (i j : ℕ) → Located rows i j → lightOf (rowAt rows i) j ≤ light
 
+-- all brightest pixels have one light
+pub same-light : {rows : List CodedRow} {l r j l′ r′ j′ : ℕ} → BrightestAt rows l r j → BrightestAt rows l′ r′ j′ → l ≡ l′
+same-light {rows} {l} {r} {j} {l′} {r′} {j′} x y = omega (arith, x .has, y .has, y .most r j (x .there), x .most r′ j′ (y .there))
+
 -- ---- the walk by any choice
 -- whether a pixel takes over, by its light and the light found before
 abbrev pub Choice : Type 0

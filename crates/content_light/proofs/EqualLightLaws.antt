@@ -11,7 +11,7 @@ use borrow.Author.Tests.{ltb-true, ltb-false}
 use Rattle.content_light.specs.declared.PeakAnswer.{PeakAnswer}
 use Rattle.content_light.specs.declared.PeakAnswer.the-variants.{Peak, Refused}
 use Rattle.content_light.specs.Peak.{CodedRow, acceptedRows, Brightest, none, found, brightestPixel, peakOf, measured}
-use Rattle.content_light.proofs.BrightestLaws.{Before, one-way, same-place, BrightestAt, Choice, afterRowsBy, Keeps}
+use Rattle.content_light.proofs.BrightestLaws.{Before, one-way, same-place, BrightestAt, same-light, Choice, afterRowsBy, Keeps}
 use Rattle.content_light.proofs.BrightestLaws.{kept-brightest, kept-tied, nothing-kept, brightest-found, no-pixel-located}
 use Rattle.content_light.proofs.LastLaws.{last-brightest}
 
@@ -91,9 +91,6 @@ module _ (rows : List CodedRow) where
   both : Both former (brightestPixel rows)
   both = go former (brightestPixel rows) refl refl
     where
-      same-light : {l r j l′ r′ j′ : ℕ} → BrightestAt rows l r j → BrightestAt rows l′ r′ j′ → l ≡ l′
-      same-light {l} {r} {j} {l′} {r′} {j′} x y = omega (arith, x .has, y .has, y .most r j (x .there), x .most r′ j′ (y .there))
-
       places : (l r j l′ r′ j′ : ℕ) → former ≡ found l r j → brightestPixel rows ≡ found l′ r′ j′ → l ≡ l′
           → BrightestAt rows l r j → BrightestAt rows l′ r′ j′ → Dec (Before r j r′ j′) → Both former (brightestPixel rows)
       places l r j l′ r′ j′ p q same x y (yes b) = several p (rw (sym same) at q) x (rw (sym same) at y) b

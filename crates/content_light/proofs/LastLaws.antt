@@ -7,7 +7,7 @@ use native.Mathlib.Decide.{decLt}
 use Rattle.content_light.specs.Peak.{CodedRow, lightOf, outshines, none, found, brightestPixel}
 use Rattle.content_light.proofs.OutshinesLaws.{outshines-le, outshone-le, equal-taken}
 use Rattle.content_light.proofs.BrightestLaws.{rowAt, Located, Before, one-way, same-place, BrightestAt, Keeps, kept-tied, rows-by-outshines}
-use Rattle.content_light.proofs.BrightestLaws.{brightest-found}
+use Rattle.content_light.proofs.BrightestLaws.{same-light, brightest-found}
 
 keeps-last : Keeps outshines (λ i j row pixel. Before row pixel i j → ⊥)
 keeps-last =
@@ -42,8 +42,7 @@ pub last-unique : (rows : List CodedRow) {l r j l′ r′ j′ : ℕ} → LastBr
 last-unique rows {l} {r} {j} {l′} {r′} {j′} x y = (same, place .0, place .1)
   where
     same : l ≡ l′
-    same =
-        omega (arith, x .brightest .has, y .brightest .has, y .brightest .most r j (x .brightest .there), x .brightest .most r′ j′ (y .brightest .there))
+    same = same-light (x .brightest) (y .brightest)
 
     -- one behind the other would have less light
     place : (r ≡ r′) × (j ≡ j′)
