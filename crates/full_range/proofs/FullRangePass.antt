@@ -7,19 +7,19 @@ use Rattle.pq.specs.LightTable.{lightTable, lightEntry}
 use Rattle.pq.proofs.PqTests.{Hint, hint}
 use Rattle.pq.proofs.TableHints.{hints}
 use Rattle.position.specs.Position.{lightAt}
-use Rattle.full_range.proofs.FullRangeTests.{holds, cell}
-use Rattle.full_range.proofs.FullRangeWalk.{overTable, each}
+use Rattle.full_range.proofs.FullRangeTests.{holds, everyCode}
+use Rattle.full_range.proofs.FullRangeWalk.{each}
 
 -- ---- with witnesses between hints: ten bits from code 7 on, twelve bits from code 32 on, all but the last code
-pub ten-bits : T (overTable (cell 1023) 23 3482)
+pub ten-bits : T (everyCode 1023 23 3482)
 unfolding units tenThousand ratioNum ratioDen lightTable hints
 ten-bits = tt
 
-pub twelve-bits-below : T (overTable (cell 4095) 27 1770)
+pub twelve-bits-below : T (everyCode 4095 27 1770)
 unfolding units tenThousand ratioNum ratioDen lightTable hints
 twelve-bits-below = tt
 
-pub twelve-bits-above : T (overTable (cell 4095) 1796 1709)
+pub twelve-bits-above : T (everyCode 4095 1796 1709)
 unfolding units tenThousand ratioNum ratioDen lightTable hints
 twelve-bits-above = tt
 

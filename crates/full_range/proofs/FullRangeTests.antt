@@ -1,16 +1,16 @@
--- A test of the light at the position of a full-range code against the PQ formula, and of all codes of one cell of the light table with witnesses
--- between the hints of its two entries; and what a passed test gives. Lights in units, positions in 1/897,024.
+-- A test of the light at the position of a full-range code against the PQ formula, with witnesses between the hints of its cell's two entries; and what
+-- a passed test gives. Lights in units, positions in 1/897,024.
 use mathlib.Core.Bool.{Bool, _&&_}
-use Prim.Native.Nat.{ℕ, min, _+_, _-_, _*_, _/_, _%_, _^_, _≤_, _<_}
-use native.Mathlib.Omega.{arith}
+use Prim.Native.Nat.{ℕ, min, _+_, _-_, _*_, _/_, _%_, _^_}
 use lib.Dec.{T}
 use lib.Ieee.Fits.{and-l, and-r}
 use Rattle.laws.specs.Fraction.{whole}
 use Rattle.laws.specs.Side.{Side, low, high}
-use Rattle.laws.proofs.ComputedTests.{everyIn, chunk}
 use Rattle.pq.specs.Pq.{ValueAtMost, ValueAtLeast, positionSignal}
 use Rattle.pq.proofs.PqTests.{atMostTest, atMostTest→, aboveTest, aboveTest→, Hint, hint}
 use Rattle.pq.proofs.PqLaws.{at-least-of-above}
+use Rattle.pq.proofs.CellWalk.{PlaceTest, everyPlace}
+use Rattle.position.proofs.LightLaws.{lightIn}
 use Rattle.full_range.proofs.FoundNumbers.{lightPart, unitsBelow, unitsAbove}
 
 -- what encloses a light l; black, which has none, on both sides by itself
@@ -48,10 +48,6 @@ place top n = 897024 * n / top
 abbrev pub firstIn : ℕ → ℕ → ℕ
 firstIn top k = (k * top + 3503) / 3504
 
--- its light in a cell from p to r
-abbrev lightIn : ℕ → ℕ → ℕ → ℕ
-lightIn p r q = p + (r - p) * (q % 256) / 256
-
 -- witnesses f / 256 of the way from a to a + s, in 1 / 2 ^ b: below less its 2^16th, above with its 2^15th more, since w is no straight line
 abbrev under : ℕ → ℕ → ℕ → ℕ → ℕ → Hint
 under a s b j f = let x = a + s * f / 256 in hint (x - x / 2 ^ 16) b j
@@ -59,21 +55,12 @@ under a s b j f = let x = a + s * f / 256 in hint (x - x / 2 ^ 16) b j
 abbrev over : ℕ → ℕ → ℕ → ℕ → ℕ → Hint
 over a s b j f = let x = a + s * f / 256 in hint (x + x / 2 ^ 15) b j
 
-abbrev one : ℕ → ℕ → ℕ → ℕ → ℕ → ℕ → ℕ → ℕ → Bool
+abbrev pub one : ℕ → PlaceTest
 one top p r a s b j n = let q = place top n in holds (lightIn p r q) q (under a s b j (q % 256)) (over a s b j (q % 256 + 1))
 
--- every code of the cell k, from the entry p with its hint to r with the next
-abbrev pub cell : ℕ → ℕ → ℕ → ℕ → Hint → Hint → Bool
-cell top k p r (hint a b j) (hint z c i) =
-    let x = a / 2 ^ (b - c) in
-    everyIn (one top p r x (z - x) c j) (firstIn top k) (firstIn top (k + 1) - firstIn top k)
+pub one→ : (top p r a s b j n : ℕ) → T (one top p r a s b j n) → Held (lightIn p r (place top n)) (place top n)
+one→ top p r a s b j n t = let q = place top n in holds→ (lightIn p r q) q (under a s b j (q % 256)) (over a s b j (q % 256 + 1)) t
 
-pub cell→ : (top k p r : ℕ) (g h : Hint) → T (cell top k p r g h) → (n : ℕ) → firstIn top k ≤ n → n < firstIn top (k + 1)
-    → Held (lightIn p r (place top n)) (place top n)
-cell→ top k p r (hint a b j) (hint z c i) t n from to =
-    let x = a / 2 ^ (b - c) in
-    let s = z - x in
-    let f = firstIn top k in
-    let q = place top n in
-    holds→ (lightIn p r q) q (under x s c j (q % 256)) (over x s c j (q % 256 + 1))
-    (chunk (one top p r x s c j) f (firstIn top (k + 1) - f) t n from (omega arith))
+-- every code whose position is in a cell between c entries of the light table from k on
+abbrev pub everyCode : (top k c : ℕ) → Bool
+everyCode top = everyPlace (firstIn top) (one top)

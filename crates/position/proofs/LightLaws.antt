@@ -11,6 +11,10 @@ use Rattle.pq.specs.Pq.{entryIn}
 use Rattle.pq.proofs.EntryLaws.{entries-grow, entry-first, entry-last, entry-past}
 use Rattle.position.specs.Position.{lightAtIn, lightAt}
 
+-- the light at q from the entries of its cell, p and the next
+abbrev pub lightIn : ℕ → ℕ → ℕ → ℕ
+lightIn p next q = p + (next - p) * (q % 256) / 256
+
 -- a part f of 256 of a height d: no more than d, and by whole cells of 256 and the rest
 pub part-le : (d f : ℕ) → f < 256 → d * f / 256 ≤ d
 part-le d f h = omega (arith, mul-le-mul-left {m = f} {n = 256} d (omega arith))

@@ -4,3 +4,4 @@ pub mod TableHints
 pub mod TableTest
 pub mod PqLaws
 pub mod EntryLaws
+pub mod CellWalk
