@@ -1,5 +1,5 @@
 #!/usr/bin/env python3
-"""The room that the found numbers of demand 3's proof have: FoundNumbers.antt of crates/distance and crates/full_range against the stored tables.
+"""The room that the found numbers of demand 3's proof have: FoundNumbers.antt of crates/distance, full_range and bent_lights against the stored tables.
 
     python3 tools/slack.py            each number, the least and the most that would do beside the others, and what they come from
     python3 tools/slack.py --check    the same in silence, unless a number is out of its room
@@ -27,8 +27,8 @@ A, B, C_HLG = Decimal("0.17883277"), Decimal("0.28466892"), Decimal("0.55991073"
 def numbers():
     """The found numbers by name; one is given by another."""
     found = {}
-    for folder in (PROOFS, ROOT / "crates/full_range/proofs"):
-        for name, value in re.findall(r"^(\w+) = (.+)$", (folder / "FoundNumbers.antt").read_text(encoding="utf-8"), re.M):
+    for crate in ("distance", "full_range", "bent_lights"):
+        for name, value in re.findall(r"^(\w+) = (.+)$", (ROOT / "crates" / crate / "proofs/FoundNumbers.antt").read_text(encoding="utf-8"), re.M):
             found[name] = eval(value, {}, found)
     return found
 
@@ -59,6 +59,11 @@ def light_at(q):
     k, f = divmod(q, CELL)
     low, high = LIGHTS[min(k, len(LIGHTS) - 1)], LIGHTS[min(k + 1, len(LIGHTS) - 1)]
     return low + (high - low) * f // CELL
+
+
+def formula(q):
+    """The PQ EOTF of a position, in units."""
+    return light_table.TEN_THOUSAND * light_table.signal_w(Decimal(q) / CELL) ** (Decimal(8192) / 1305)
 
 
 def position_of(light):
@@ -142,6 +147,12 @@ def slow(p, q, off=None, cells=None):
         and p * (PARTS * LIGHTS[k + 1] + ABOVE) <= q * PARTS * light_at(CELL * k - off) for k in cells)
 
 
+def points_hold(k):
+    """Whether the light at each point of a cell lies between the formula's at the position before and at the one after."""
+    apart = N["pointsApart"]
+    return all(formula(q - 1) <= light_at(q) <= formula(q + 1) for q in range(-(-CELL * k // apart) * apart, CELL * (k + 1), apart))
+
+
 # ---- the curve under every peak, at the position of every ten-bit code
 
 T = position_of(1000 * UNITS)
@@ -174,8 +185,6 @@ def bent():
 
 def full_lights():
     """The engine's light, and the formula's at the position and at the next."""
-    def formula(q):
-        return light_table.TEN_THOUSAND * light_table.signal_w(Decimal(q) / CELL) ** (Decimal(8192) / 1305)
     positions = {LAST * n // top for top in (1023, 4095) for n in range(1, top + 1)}
     return [(light_at(q), formula(q), formula(q + 1)) for q in positions]
 
@@ -264,6 +273,10 @@ def rows():
     yield "firstCell", least(lambda k: slow(p, q, cells=range(k, 2300)), 2300), (N["leastBent"] - N["positionsOff"]) // CELL, "ratio; lowest bent position"
     yield "cells", (T + N["positionsOff"]) // CELL - N["firstCell"] + 1, len(LIGHTS) - 1 - N["firstCell"], "1,000 cd/m2; end of the table"
     yield "thousandAt", T, T, "the position of 1,000 cd/m2"
+    yield "pointsApart", 1, CELL, "cells"
+    reach = N["positionsOff"] + N["pointsApart"]
+    yield "firstPointCell", least(points_hold, N["firstPointCell"]), (N["leastBent"] - reach) // CELL, "formula; lowest bent position"
+    yield "lastPointCell", (T + reach) // CELL, most(points_hold, N["lastPointCell"], len(LIGHTS) - 1), "1,000 cd/m2; formula"
     yield from full_rows()
 
 

@@ -1,0 +1,4 @@
+pub mod FoundNumbers
+pub mod PointTests
+pub mod PointsPass
+pub mod PointLights

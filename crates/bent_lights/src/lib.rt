@@ -1,0 +1,1 @@
+// The lights at positions that the highlight curve bends to, enclosed by the PQ formula: see proofs/. No function is needed.
