@@ -16,7 +16,6 @@ sys.path.insert(0, str(Path(__file__).resolve().parent))
 import light_table
 
 ROOT = Path(__file__).resolve().parent.parent
-PROOFS = ROOT / "crates/distance/proofs"
 getcontext().prec = 60
 UNITS, CELL, LAST = 2**24, 256, 897024
 C, K = 2**109, 48828125                  # the HLG comparison without its common factor: hlg/proofs/CancelledLaws
@@ -33,12 +32,6 @@ def numbers():
     return found
 
 
-def rounding():
-    """How an entry encloses its light: parts of a unit, how many below it and how many above."""
-    entries = re.search(r"^entries = record \{(.+)\}$", (PROOFS / "LightLaws.antt").read_text(encoding="utf-8"), re.M).group(1)
-    return [int(re.search(rf"\b{name} = (\d+);", entries).group(1)) for name in ("parts", "below", "above")]
-
-
 def table(path):
     """The entries of a stored table."""
     text = (ROOT / path).read_text(encoding="utf-8").split("List ℕ\n")[1]
@@ -50,7 +43,6 @@ N = numbers()
 FULL = {name: N["full" + name[0].upper() + name[1:]] for name in (
     "resultAbove", "resultBelow", "luminanceBelow", "luminanceAbove", "slopeAbove", "slopeBelow", "roomAbove", "roomBelow", "ratioUnder", "ratioOver")}
 FULL["leastLuminance"] = N["litLuminance"]
-PARTS, BELOW, ABOVE = rounding()
 LIGHTS = table("crates/pq/specs/LightTable.antt")
 STEPS = table("crates/hlg_steps/specs/StepTable.antt")
 
@@ -139,12 +131,13 @@ def sixteenths(n):
     return [scene_light(Decimal(16 * i + n) / 14016) for i in range(len(STEPS))]
 
 
-def slow(p, q, off=None, cells=None):
-    off = N["positionsOff"] if off is None else off
-    cells = range(N["firstCell"], N["firstCell"] + N["cells"]) if cells is None else cells
-    return all(
-        p * PARTS * light_at(CELL * k + CELL - 1 + off) <= q * (PARTS * LIGHTS[k] - BELOW)
-        and p * (PARTS * LIGHTS[k + 1] + ABOVE) <= q * PARTS * light_at(CELL * k - off) for k in cells)
+def slow(cells=None, **other):
+    """`slow` of BentLightTests: the ratio over the way from a bent position to a point, cell by cell."""
+    n = {**N, **other}
+    reach = n["positionsOff"] + n["pointsApart"]
+    cells = range(n["firstCell"], n["firstCell"] + n["cells"]) if cells is None else cells
+    rises = [LIGHTS[min(k + 1, len(LIGHTS) - 1)] - LIGHTS[k] for k in range(len(LIGHTS))]
+    return all(n["ratioUnder"] * (reach * max(rises[k], rises[k + 1]) + 2 * CELL) <= CELL * LIGHTS[k] for k in cells)
 
 
 def points_hold(k):
@@ -204,8 +197,8 @@ def units_fit(**other):
 
 
 def ratios_fit(p, part):
-    """The curve's ratio and the parts of three lights are less than (p + 1) / p."""
-    return part > 1 and p * (part + 1) * N["ratioOver"] <= (p + 1) * (part - 1) * N["ratioUnder"]
+    """The parts of three lights are less than (p + 1) / p."""
+    return part > 1 and p * (part + 1) * part <= (p + 1) * (part - 1) ** 2
 
 
 def dim_fits(ratio, first):
@@ -220,7 +213,8 @@ def full_rows():
     lights = full_lights()
     first, third, fourth = (light_at(LAST * n // 4095) for n in (1, 3, 4))
     p, part = FULL["ratioUnder"], N["lightPart"]
-    yield "lightPart", least(lambda n: ratios_fit(p, n), 10**6), most(lambda n: encloses(lights, lightPart=n), 1), "ratio of full range; codes"
+    yield ("lightPart", least(lambda n: ratios_fit(p, n), 10**6), min(most(lambda n: encloses(lights, lightPart=n), 1), N["ratioUnder"]),
+           "ratio of full range; codes, the curve's ratio")
     yield "unitsBelow", least(lambda n: encloses(lights, unitsBelow=n), 100), most(lambda n: units_fit(unitsBelow=n), 0), "codes; units off a result"
     yield "unitsAbove", least(lambda n: encloses(lights, unitsAbove=n), 100), most(lambda n: units_fit(unitsAbove=n), 0), "codes; units off a result"
     yield "firstLight", least(lambda n: dim_fits(N["dimRatio"], n), 100), first, "ratio and slope of dim lights; first code of twelve bits"
@@ -241,7 +235,7 @@ def full_rows():
     yield "fullRoomAbove", least(lambda u: add_high(FULL, roomAbove=u), 10**6), up, "units off; ratio"
     yield "fullRoomBelow", least(lambda l: add_low(FULL, roomBelow=l), 10**6), down, "units off; ratio"
     yield ("fullRatioUnder", least(lambda n: n > 0 and between_steps(n, n + 1, FULL), 10**6), most(lambda n: ratios_fit(n, part), 1),
-           "steps; the curve's ratio, parts of lights")
+           "steps; parts of lights")
     yield "fullRatioOver", p + 1, p + 1, "one more"
     yield ("dimRatio", least(lambda n: dim_fits(n, N["firstLight"]), 100),
            most(lambda n: all(n**7 * x**6 <= (y - 1) ** 6 for x, y in zip(STEPS, STEPS[1:3])), 0), "ends of dim lights; first steps")
@@ -253,7 +247,7 @@ def rows():
     nine_up = min(int(e) - t for e, t in zip(over, STEPS))
     nine_down = min(t - int(-(-e // 1)) for e, t in zip(under, STEPS))
     off, lowest = bent()
-    p, q = N["ratioUnder"], N["ratioOver"]
+    p, q, reach = N["ratioUnder"], N["ratioOver"], N["positionsOff"] + N["pointsApart"]
     yield "leastLight", LIGHTS[1], LIGHTS[1], "entry 1"
     yield "leastLuminance", least(lambda y: slope_above(leastLuminance=y) and slope_below(leastLuminance=y), 10**6), BLUE * LIGHTS[1], "slopes; entry 1"
     yield "resultAbove", 3, most(lambda s: add_high(resultAbove=s), 0), "`sum-up`; room above"
@@ -265,18 +259,17 @@ def rows():
     up, down = most(lambda u: between_steps(p, q, roomAbove=u), 0), most(lambda l: between_steps(p, q, roomBelow=l), 0)
     yield "roomAbove", least(lambda u: add_high(roomAbove=u), 10**6), min(nine_up, up), "units off; 9/16, ratio"
     yield "roomBelow", least(lambda l: add_low(roomBelow=l), 10**6), min(nine_down, down), "units off; 7/16, ratio"
-    yield "ratioUnder", least(lambda n: n > 0 and between_steps(n, n + 1), 10**6), most(lambda n: slow(n, n + 1), 1), "steps; cells of bent light"
-    yield "ratioOver", p + 1, p + 1, "one more"
-    yield "positionsOff", off, most(lambda n: slow(p, q, n), 0, 1000), "narrow codes under every peak; cells of bent light"
-    yield "kneeHalves", 5, 2048, "J high and H high; a whole code below the knee"
-    yield "leastBent", CELL * N["firstCell"] + N["positionsOff"], lowest, "first cell; lowest bent position"
-    yield "firstCell", least(lambda k: slow(p, q, cells=range(k, 2300)), 2300), (N["leastBent"] - N["positionsOff"]) // CELL, "ratio; lowest bent position"
-    yield "cells", (T + N["positionsOff"]) // CELL - N["firstCell"] + 1, len(LIGHTS) - 1 - N["firstCell"], "1,000 cd/m2; end of the table"
+    yield "ratioUnder", least(lambda n: n > 0 and between_steps(n, n + 1), 10**6), most(lambda n: slow(ratioUnder=n), 1), "steps; cells of bent light"
+    yield "ratioOver", N["ratioUnder"] + 1, N["ratioUnder"] + 1, "one more"
+    yield "positionsOff", off, most(lambda n: slow(positionsOff=n), 0, 1000), "narrow codes under every peak; cells of bent light"
+    yield "kneeHalves", 5, 5, "J high and H high; `curve-place`"
+    yield "leastBent", CELL * N["firstCell"] + reach, lowest, "first cell; lowest bent position"
+    yield "firstCell", least(lambda k: slow(range(k, 2300)), 2300), (N["leastBent"] - reach) // CELL, "ratio; lowest bent position"
+    yield "cells", T // CELL - N["firstCell"] + 1, most(lambda n: slow(cells=range(N["firstCell"], N["firstCell"] + n)), 1, 1305), "1,000 cd/m2; ratio"
     yield "thousandAt", T, T, "the position of 1,000 cd/m2"
-    yield "pointsApart", 1, CELL, "cells"
-    reach = N["positionsOff"] + N["pointsApart"]
+    yield "pointsApart", 1, most(lambda n: slow(pointsApart=n), 1, 1000), "cells of bent light"
     yield "firstPointCell", least(points_hold, N["firstPointCell"]), (N["leastBent"] - reach) // CELL, "formula; lowest bent position"
-    yield "lastPointCell", (T + reach) // CELL, most(points_hold, N["lastPointCell"], len(LIGHTS) - 1), "1,000 cd/m2; formula"
+    yield ("lastPointCell", (T + reach) // CELL, most(points_hold, N["lastPointCell"], len(LIGHTS) - 1), "1,000 cd/m2; formula")
     yield from full_rows()
 
 

@@ -1,8 +1,8 @@
 -- The bent light of a pixel whose X is at a position, or between it and the next, enclosed: by what encloses the light there where the curve doesn't
--- bend it, else within a ratio. Then of one whose X is the signal of an index of the light table.
+-- bend it, else by the lights of points, within a ratio. Then of one whose X is the signal of an index of the light table.
 use mathlib.Core.Path.{_≡_, refl, _∙_, ap, subst}
 use mathlib.Core.Logic.{_⊎_, inl, inr}
-use Prim.Native.Nat.{ℕ, pred, min, _+_, _-_, _*_, _/_, _≤_, _<_}
+use Prim.Native.Nat.{ℕ, pred, min, _+_, _-_, _*_, _≤_, _<_}
 use native.Mathlib.Nat.{le-refl}
 use native.Mathlib.Decide.{decLe}
 use native.Mathlib.Omega.{arith}
@@ -13,12 +13,15 @@ use Rattle.quantity.specs.Units.{units, thousand, lastPosition}
 use Rattle.quantity.specs.Component.{Component, Pixel, brightest}
 use Rattle.pq.specs.Pq.{positionSignal, ValueAtLeast}
 use Rattle.pq.specs.LightTable.{lightTable, lightEntry}
+use Rattle.pq.proofs.PqLaws.{at-most-light, at-least-light}
 use Rattle.pq.proofs.EntryLaws.{entries-grow}
 use Rattle.position.specs.Position.{lightAt, positionOf}
 use Rattle.position.proofs.LightLaws.{light-grows, light-at-entry}
 use Rattle.position.proofs.PositionLaws.{position-is}
 use Rattle.position.proofs.PeakLaws.{thousand-position, peak-past}
 use Rattle.peaks.proofs.PeakSignals.{peak-between, thousand-low, thousand-high}
+use Rattle.bent_lights.proofs.FoundNumbers.{pointsApart, firstPointCell, lastPointCell}
+use Rattle.bent_lights.proofs.PointLights.{pointBefore, pointAfter, held}
 use Rattle.eetf.specs.Curve.{kneeCurve, bentLight}
 use Rattle.eetf.proofs.SplineLaws.{curve, curve-stays, knee-curve-light}
 use Rattle.eetf.proofs.CurveLaws.{unbent, bent-by-curve, bent-le-self, bent-le-thousand}
@@ -27,7 +30,7 @@ use Rattle.distance.proofs.FoundNumbers.{leastLight, ratioUnder, ratioO
 use Rattle.distance.proofs.NearLaws.{end, around, BentWithin}
 use Rattle.distance.proofs.LightLaws.{entries, light-low, light-high}
 use Rattle.distance.proofs.BentSignalLaws.{Around, endsAround, are-around, straight, bent-low, bent-high, bent-range}
-use Rattle.distance.proofs.BentLightTests.{slow-at}
+use Rattle.distance.proofs.BentLightTests.{reach, slow-light}
 
 -- ---- a peak above 1,000: t is the position of 1,000 cd/m2, w the peak's position
 module _ (peak : ℕ) (more : 1000 < peak) (most : peak ≤ 10000) where
@@ -127,6 +130,17 @@ pub record Enclosure (p q : ℕ) (G : Given) (peak m : ℕ) : Type 0 where
   pub lights : (s : Side) → BentLight G s peak (inParts (b s))
   pub within : BentWithin entries p q (lightAt m) (bentLight peak (lightAt m) m) b
 
+-- the lights at the points around a position enclose that of its signal
+point-low : (q : ℕ) → 256 * firstPointCell + pointsApart ≤ q → q + pointsApart < 256 * (lastPointCell + 1)
+    → Light low (positionSignal q) (inParts (entries .parts * lightAt (pointBefore q)))
+unfolding Light Value
+point-low q from to = inr (at-most-light (held q from to .below) (record { cross = omega arith }))
+
+point-high : (q : ℕ) → 256 * firstPointCell + pointsApart ≤ q → q + pointsApart < 256 * (lastPointCell + 1)
+    → Light high (positionSignal q) (inParts (entries .parts * lightAt (pointAfter q)))
+unfolding Light Value
+point-high q from to = inr (at-least-light (held q from to .above) (record { cross = omega arith }))
+
 pub thousand-ge : 1000 ≤ thousand
 unfolding thousand units
 thousand-ge = omega arith
@@ -172,7 +186,7 @@ module _ {G : Given} {m : ℕ} (P : Placed G m) (peak : ℕ) (most : peak ≤ 10
           by-self peak above most G s m (P .x s) (inParts (e s n)) g (P .to s) (P .signal s)
           (own s _ (subst (λ l. Bounds s (inParts (e s n)) (inParts (e s l))) (stays peak above most m g) (at-refl s _)))
 
-  -- from there on the curve's light, by entries of the table so many positions and a cell away; s is the bent position
+  -- from there on the curve's light, by the points around its ends; s is the bent position
   pub curve-lights : 1000 < peak → 3 * thousandAt < 2 * m + kneeHalves + positionOf (peak * units) → Enclosure ratioUnder ratioOver G peak m
   curve-lights above h = record { b = b; lights = side; within = record { lower = lower; upper = upper; bent = bent-le-self peak m; seen = seen } }
     where
@@ -186,28 +200,26 @@ module _ {G : Given} {m : ℕ} (P : Placed G m) (peak : ℕ) (most : peak ≤ 10
       is = to-light peak above most m
 
       j : ℕ
-      j = (s - positionsOff) / 256
+      j = pointBefore (s - positionsOff)
 
       i : ℕ
-      i = (s + positionsOff) / 256
+      i = pointAfter (s + positionsOff)
 
       b : Side → ℕ
-      b low = end entries low (lightEntry j)
-      b high = end entries high (lightEntry (i + 1))
+      b low = entries .parts * lightAt j
+      b high = entries .parts * lightAt i
 
       side : (e : Side) → BentLight G e peak (inParts (b e))
       side low =
-          by-low peak above most m h G (P .x low) _ (P .from) (P .signal low)
-          (light-low j _ (omega (arith, r)) (omega (arith, r)) (record { cross = omega arith }) (record { cross = le-refl _ }))
+          by-low peak above most m h G (P .x low) _ (P .from) (P .signal low) (point-low (s - positionsOff) (omega (arith, r)) (omega (arith, r)))
       side high =
-          by-high peak above most m h G (P .x high) _ (P .to high) (P .signal high)
-          (light-high (i + 1) _ (omega (arith, r)) (record { cross = omega arith }) (record { cross = le-refl _ }))
+          by-high peak above most m h G (P .x high) _ (P .to high) (P .signal high) (point-high (s + positionsOff) (omega (arith, r)) (omega (arith, r)))
 
-      lower : ratioUnder * end entries low n ≤ ratioOver * end entries low (lightEntry j)
-      lower = omega (arith, is, light-grows s (256 * j + 255 + positionsOff) (omega arith), slow-at j (omega (arith, r)) (omega (arith, r)) .0)
+      lower : ratioUnder * end entries low n ≤ ratioOver * (entries .parts * lightAt j)
+      lower = omega (arith, is, light-grows s (j + reach) (omega arith), slow-light j (omega (arith, r)) (omega (arith, r)))
 
-      upper : ratioUnder * end entries high (lightEntry (i + 1)) ≤ ratioOver * end entries high n
-      upper = omega (arith, is, light-grows (256 * i - positionsOff) s (omega arith), slow-at i (omega (arith, r)) (omega (arith, r)) .1)
+      upper : ratioUnder * (entries .parts * lightAt i) ≤ ratioOver * end entries high n
+      upper = omega (arith, is, light-grows i (s + reach) (omega arith), slow-light s (omega (arith, r)) (omega (arith, r)))
 
       seen : leastLight ≤ n
       seen = omega (arith, is, light-grows (256 * 1) s (omega (arith, r)), light-at-entry 1, second-entry)

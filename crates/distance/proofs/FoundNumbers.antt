@@ -36,10 +36,10 @@ roomBelow = 27000
 
 -- ---- the bent light lies within this ratio of the engine's
 abbrev pub ratioUnder : ℕ
-ratioUnder = 360
+ratioUnder = 4130
 
 abbrev pub ratioOver : ℕ
-ratioOver = 361
+ratioOver = 4131
 
 -- positions that the bent signal lies off the curve's, and half positions below the knee where X surely serves itself
 abbrev pub positionsOff : ℕ
@@ -52,7 +52,7 @@ kneeHalves = 5
 abbrev pub thousandAt : ℕ
 thousandAt = 674406
 
--- the bent positions under peaks from 1,001 to 10,000, and the cells of the light table that hold them and eight more on either side
+-- the bent positions under peaks from 1,001 to 10,000, and the cells of the light table that hold them and the points around them
 abbrev pub leastBent : ℕ
 leastBent = 563095
 

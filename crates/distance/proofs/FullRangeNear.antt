@@ -1,5 +1,5 @@
--- The fractions of a lit full-range pixel lie near its mapped numbers: from lights enclosed within a part of themselves and some units, and a bent
--- light enclosed within the curve's ratio and those units. All lights in units, the bent light's ends in halves.
+-- The fractions of a lit full-range pixel lie near its mapped numbers: from lights, the bent light among them, enclosed within a part of themselves and
+-- some units. All lights in units, the bent light's ends in halves.
 use mathlib.Core.Path.{_≡_, ap, subst}
 use Prim.Native.Nat.{ℕ, _+_, _-_, _*_, _≤_, _<_}
 use native.Mathlib.Nat.{mul-le-mul, mul-le-mul-left, mul-le-mul-right, sub-eq-zero-of-le}
@@ -11,7 +11,7 @@ use Rattle.quantity.specs.Component.{Component, red, green, blue, Pixel, weight
 use Rattle.pixel.proofs.PixelLaws.{Floor, Mapped}
 use Rattle.full_range.proofs.FoundNumbers.{lightPart, unitsBelow, unitsAbove}
 use Rattle.full_range.proofs.FullRangeTests.{less, more, beside}
-use Rattle.distance.proofs.FoundNumbers.{ratioUnder, ratioOver, litLight, litLuminance, fullResultAbove, fullResultBelow}
+use Rattle.distance.proofs.FoundNumbers.{litLight, litLuminance, fullResultAbove, fullResultBelow}
 use Rattle.distance.proofs.FoundNumbers.{fullLuminanceBelow, fullLuminanceAbove, fullRatioUnder, fullRatioOver}
 use Rattle.distance.proofs.NearLaws.{Near, mapped-le, part-le, luminance-ge}
 use Rattle.distance.proofs.LightLaws.{entries}
@@ -28,8 +28,8 @@ more-le l = omega arith
 
 -- halves b enclose the bent light so about n, to which the brightest light m is mapped
 pub record BentBeside (m n : ℕ) (b : Side → ℕ) : Type 0 where
-  pub lower : ratioUnder * (entries .parts * (n - unitsOff)) ≤ ratioOver * b low
-  pub upper : ratioUnder * b high ≤ ratioOver * (entries .parts * (n + unitsAbove))
+  pub lower : (lightPart - 1) * (entries .parts * (n - unitsOff)) ≤ lightPart * b low
+  pub upper : lightPart * b high ≤ (lightPart + 1) * (entries .parts * (n + unitsAbove))
   pub bent : n ≤ m
   pub seen : litLight ≤ n
 
@@ -68,12 +68,12 @@ sum-lo m n W v o y g some below hv hy hg ho f = go (decLe y g)
     go (yes p) = rw (sub-eq-zero-of-le p) (omega arith)
     go (no p) = spread (y - g) (n - unitsOff) (omega arith) (omega arith)
 
--- ---- with the parts and the curve's ratio: these three together are less than the ratio of full range
-with-ratio-up : (k a b c hi bh ml : ℕ) → lightPart * hi ≤ (lightPart + 1) * a → ratioUnder * bh ≤ ratioOver * (entries .parts * b)
+-- ---- with the parts of three lights, which together are less than the ratio of full range
+with-ratio-up : (k a b c hi bh ml : ℕ) → lightPart * hi ≤ (lightPart + 1) * a → lightPart * bh ≤ (lightPart + 1) * (entries .parts * b)
     → (lightPart - 1) * k ≤ lightPart * ml → a * b ≤ k * c → fullRatioUnder * (hi * bh) ≤ fullRatioOver * (entries .parts * ml * c)
 with-ratio-up k a b c hi bh ml h g m f = omega (arith, mul-le-mul h g, f, mul-le-mul-right c m)
 
-with-ratio-lo : (m w l e lo bl mh : ℕ) → (lightPart - 1) * w ≤ lightPart * lo → ratioUnder * (entries .parts * l) ≤ ratioOver * bl
+with-ratio-lo : (m w l e lo bl mh : ℕ) → (lightPart - 1) * w ≤ lightPart * lo → (lightPart - 1) * (entries .parts * l) ≤ lightPart * bl
     → lightPart * mh ≤ (lightPart + 1) * m → e * m ≤ w * l → fullRatioUnder * (e * (entries .parts * mh)) ≤ fullRatioOver * (lo * bl)
 with-ratio-lo m w l e lo bl mh h g k f = omega (arith, mul-le-mul h g, f, mul-le-mul-left e k)
 
