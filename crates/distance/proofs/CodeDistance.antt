@@ -18,7 +18,7 @@ use Rattle.hlg_steps.specs.StepTable.{stepTable, step}
 use Rattle.hlg_steps.proofs.SignalTests.{signal-test}
 use Rattle.hlg_steps.proofs.StepLaws.{step-pos, step-signal-low, step-signal-high, steps-grow}
 use Rattle.hlg.proofs.CancelledLaws.{C, K, C-pos, Reach, Code}
-use Rattle.distance.specs.Demand.{LessThan, AtMost}
+use Rattle.distance.specs.Demand.{AtMost}
 use Rattle.distance.proofs.SceneBounds.{Scaled}
 use Rattle.distance.proofs.AdditiveLaws.{add-up, add-lo}
 use Rattle.distance.proofs.RatioLaws.{mult-up, mult-lo}
@@ -131,7 +131,7 @@ nine-sixteenths p q u l up down above below fits-up fits-down d from to low = go
 
 -- one and a half codes either side, where a ratio and the room fit from the next step to the one after it, and from a step to the one before
 pub one-and-a-half : (p q u l d : ℕ) → 64 ≤ d → d ≤ 1015 → Fits p q u l d high (step (d + 2) - 1) → (65 < d → Fits p q u l d low (step (d - 1)))
-    → Ending p q u l d (LessThan 2 d)
+    → Ending p q u l d (AtMost 3 2 d)
 unfolding none
 one-and-a-half p q u l d from to above below high =
     record {
@@ -143,7 +143,7 @@ one-and-a-half p q u l d from to above below high =
     }
 one-and-a-half p q u l d from to above below low = go (decLe d 65)
   where
-    go : Dec (d ≤ 65) → Endpoint low (Fits p q u l d low) (LessThan 2 d)
+    go : Dec (d ≤ 65) → Endpoint low (Fits p q u l d low) (AtMost 3 2 d)
     go (yes k) = none-below (inl refl) (omega arith)
     go (no k) =
         record {
@@ -155,8 +155,8 @@ one-and-a-half p q u l d from to above below low = go (decLe d 65)
         }
 
 -- which was tested between all neighbouring steps
-pub less-than-two : (p q u l : ℕ) → T (everyPair (ratio p q u l) stepTable) → (d : ℕ) → 64 ≤ d → d ≤ 1015 → Ending p q u l d (LessThan 2 d)
-less-than-two p q u l test d from to =
+pub between-all : (p q u l : ℕ) → T (everyPair (ratio p q u l) stepTable) → (d : ℕ) → 64 ≤ d → d ≤ 1015 → Ending p q u l d (AtMost 3 2 d)
+between-all p q u l test d from to =
     let next : d + 1 + 1 ≡ d + 2 = omega arith in
     let above = between-steps p q u l test (d + 1) (omega arith) (omega arith) .0 in
     one-and-a-half p q u l d from to (subst (λ c. q * q ^ 6 * (step (d + 1) + u) ^ 6 ≤ p * p ^ 6 * (step c - 1) ^ 6) next above) below

@@ -16,7 +16,7 @@ use Rattle.pixel.proofs.PixelLaws.{Floor, Mapped}
 use Rattle.full_range.proofs.FoundNumbers.{unitsBelow, unitsAbove}
 use Rattle.full_range.proofs.FullRangeTests.{less, more, beside}
 use Rattle.exact.specs.ExactValue.{Given, BentLight}
-use Rattle.distance.specs.Demand.{LessThan, Enclosed}
+use Rattle.distance.specs.Demand.{AtMost, Enclosed}
 use Rattle.distance.proofs.FoundNumbers.{slopeAbove, firstLight, dimLight, dimRatio}
 use Rattle.distance.proofs.StepTests.{slope-above}
 use Rattle.distance.proofs.StepLaws.{Room}
@@ -139,7 +139,7 @@ module _ {G : Given} {x r : Pixel} {m : ℕ} (I : Beside G x m) (M : Mapped (lig
       }
 
   pub dim-within : (peak : ℕ) → ((s : Side) → BentLight G s peak (inParts (b s))) → (i : Component)
-      → Enclosed G peak i (LessThan 2 (hlgCode (weighted r) (r i)))
+      → Enclosed G peak i (AtMost 3 2 (hlgCode (weighted r) (r i)))
   dim-within peak bent i =
       let d = hlgCode (weighted r) (r i) in
       let c = code-is (weighted r) (r i) in

@@ -1,5 +1,5 @@
--- Full range: under every peak the HLG codes of a pixel of full-range codes stand closer than two codes to their exact values, whether the curve bends it
--- or not. From lights enclosed at the positions of codes; lit pixels, dim ones and black.
+-- Full range: under every peak the HLG codes of a pixel of full-range codes stand one and a half codes from their exact values at most, whether the curve
+-- bends it or not. From lights enclosed at the positions of codes; lit pixels, dim ones and black.
 use mathlib.Core.Path.{_≡_, _∙_, sym, subst}
 use mathlib.Core.Logic.{_⊎_, inl, inr}
 use Prim.Native.Nat.{ℕ, _*_, _≤_, _<_}
@@ -24,10 +24,10 @@ use Rattle.hlg.specs.Code.{hlgCode}
 use Rattle.pixel.specs.Conversion.{mappedOf, codeOf, lights, brightestPosition, code}
 use Rattle.pixel.proofs.PixelLaws.{Mapped, light-ratio-kept, brightest-lit, light-of-brightest, code-dark}
 use Rattle.exact.specs.ExactValue.{Given, ofCodes, BentLight}
-use Rattle.distance.specs.Demand.{LessThan, Enclosed}
+use Rattle.distance.specs.Demand.{AtMost, Enclosed}
 use Rattle.distance.proofs.FoundNumbers.{dimLight, fullRoomAbove, fullRoomBelow, fullRatioUnder, fullRatioOver}
 use Rattle.distance.proofs.NearLaws.{mapped-le}
-use Rattle.distance.proofs.CodeDistance.{less-than-two, none}
+use Rattle.distance.proofs.CodeDistance.{between-all, none}
 use Rattle.distance.proofs.PixelDistance.{within, black}
 use Rattle.distance.proofs.LightLaws.{entries}
 use Rattle.distance.proofs.BentLightLaws.{Left, left-is, inParts, thousand-ge}
@@ -70,15 +70,15 @@ module _ (d : Depth) (p : Pixel) (peak : ℕ) (most : peak ≤ 10000) (some : 0 
   maps : Mapped (lightAt m) (bentLight peak (lightAt m) m) x r
   maps = light-ratio-kept peak x m (brightest-lit f p) (omega (arith, pixel-beside .some))
 
-  lit-pixel : twelve 4 ≤ m → (i : Component) → Enclosed G peak i (LessThan 2 (hlgCode (weighted r) (r i)))
+  lit-pixel : twelve 4 ≤ m → (i : Component) → Enclosed G peak i (AtMost 3 2 (hlgCode (weighted r) (r i)))
   lit-pixel h i =
       let E = enclosure pixel-beside peak most h in
       let inside : r i ≤ thousand = le-trans (mapped-le (omega (arith, pixel-beside .some)) (maps .inside i) (maps .floors i)) (bent-le-thousand peak m) in
       within (results pixel-beside peak (E .b) (E .lights)) full-room (near (E .within) maps i) (lit-luminance (E .within) maps) (lit< tt) (lit< tt) inside
-      (less-than-two fullRatioUnder fullRatioOver fullRoomAbove fullRoomBelow full-ratios)
+      (between-all fullRatioUnder fullRatioOver fullRoomAbove fullRoomBelow full-ratios)
 
   -- no curve bends a dim one
-  dim-pixel : m ≤ twelve 3 → (i : Component) → Enclosed G peak i (LessThan 2 (hlgCode (weighted r) (r i)))
+  dim-pixel : m ≤ twelve 3 → (i : Component) → Enclosed G peak i (AtMost 3 2 (hlgCode (weighted r) (r i)))
   unfolding lastPosition
   dim-pixel h =
       let dim : lightAt m ≤ dimLight = dim-le m h in
@@ -87,16 +87,16 @@ module _ (d : Depth) (p : Pixel) (peak : ℕ) (most : peak ≤ 10000) (some : 0 
       dim-within pixel-beside (subst (λ n. Mapped (lightAt m) n x r) same maps) dim (λ i. dark-or-first d (p i)) peak
       (λ s. subst (λ n. BentLight G s peak (inParts (entries .parts * beside s n))) same (left pixel-beside peak most straight s))
 
-  seen-pixel : (i : Component) → Enclosed G peak i (LessThan 2 (codeOf peak x m i))
+  seen-pixel : (i : Component) → Enclosed G peak i (AtMost 3 2 (codeOf peak x m i))
   unfolding codeOf brightestPosition
   seen-pixel i = go (dim-or-lit d (brightest p))
     where
-      go : (m ≤ twelve 3) ⊎ (twelve 4 ≤ m) → Enclosed G peak i (LessThan 2 (codeOf peak x m i))
+      go : (m ≤ twelve 3) ⊎ (twelve 4 ≤ m) → Enclosed G peak i (AtMost 3 2 (codeOf peak x m i))
       go (inl h) = dim-pixel h i
       go (inr h) = lit-pixel h i
 
 pub full-range : (d : Depth) (p : Pixel) (peak : ℕ) → peak ≤ 10000 → (i : Component)
-    → Enclosed (ofCodes (coded d Full) p) peak i (LessThan 2 (codeOf peak (lights (coded d Full) p) (brightestPosition (coded d Full) p) i))
+    → Enclosed (ofCodes (coded d Full) p) peak i (AtMost 3 2 (codeOf peak (lights (coded d Full) p) (brightestPosition (coded d Full) p) i))
 unfolding code none
 full-range d p peak most i = go (decLe 1 (aboveBlack f (brightest p)))
   where
@@ -106,8 +106,8 @@ full-range d p peak most i = go (decLe 1 (aboveBlack f (brightest p)))
     dark-pixel : aboveBlack f (brightest p) ≡ 0 → codeOf peak (lights f p) (brightestPosition f p) i ≡ 64
     dark-pixel e = code-dark (record { peak = peak; format = f }) p (light-of-brightest f p ∙ black-light f (brightest p) e) i
 
-    go : Dec (1 ≤ aboveBlack f (brightest p)) → Enclosed (ofCodes f p) peak i (LessThan 2 (codeOf peak (lights f p) (brightestPosition f p) i))
+    go : Dec (1 ≤ aboveBlack f (brightest p)) → Enclosed (ofCodes f p) peak i (AtMost 3 2 (codeOf peak (lights f p) (brightestPosition f p) i))
     go (yes h) = seen-pixel d p peak most h i
     go (no h) =
         let e : aboveBlack f (brightest p) ≡ 0 = omega arith in
-        subst (λ c. Enclosed (ofCodes f p) peak i (LessThan 2 c)) (sym (dark-pixel e)) (black e (omega arith))
+        subst (λ c. Enclosed (ofCodes f p) peak i (AtMost 3 2 c)) (sym (dark-pixel e)) (black e (omega arith))

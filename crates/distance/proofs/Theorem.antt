@@ -32,7 +32,7 @@ use Rattle.exact.specs.ExactValue.{Given, ofCodes}
 use Rattle.distance.specs.Demand.{LessThan, AtMost, Enclosed, BelowKnee, Unbent, Anywhere, Voted, Demand}
 use Rattle.distance.proofs.FoundNumbers.{roomAbove, roomBelow, ratioUnder, ratioOver, kneeHalves, thousandAt}
 use Rattle.distance.proofs.StepTests.{sixteenths-low, sixteenths-high, ratios}
-use Rattle.distance.proofs.CodeDistance.{Ending, nine-sixteenths, less-than-two, none}
+use Rattle.distance.proofs.CodeDistance.{Ending, nine-sixteenths, between-all, none}
 use Rattle.distance.proofs.PixelDistance.{bounded, wider, black}
 use Rattle.distance.proofs.LightLaws.{entries, same-light, codeIndex, index-range, index-signal, index-some, code-light}
 use Rattle.distance.proofs.FullRangeDistance.{full-range}
@@ -66,12 +66,16 @@ module _ {G : Given} {x : Pixel} {m : ℕ} (I : Indexed G x m) (peak : ℕ) (mos
       less : (d : ℕ) (g : Fraction) → AtMost 9 16 d g → LessThan 2 d g
       less d g h = omega (arith, g .pos)
 
+      by-steps : (d : ℕ) (g : Fraction) → AtMost 3 2 d g → LessThan 2 d g
+      by-steps d g h = omega (arith, g .pos)
+
       go : Dec (peak ≤ 1000) → Dec (2 * m + kneeHalves + positionOf (peak * units) ≤ 3 * thousandAt) → Enclosed G peak i (LessThan 2 (codeOf peak x m i))
       go (yes h) c = wider (less _) (nearer (inl h) i)
       go (no h) (yes g) = wider (less _) (nearer (inr g) i)
       go (no h) (no g) =
-          by-enclosure (on-curve I peak most (lt-of-not-le h) (lt-of-not-le g)) (lit< tt) (lit< tt)
-          (less-than-two ratioUnder ratioOver roomAbove roomBelow ratios) i
+          wider (by-steps _)
+          (by-enclosure (on-curve I peak most (lt-of-not-le h) (lt-of-not-le g)) (lit< tt) (lit< tt)
+          (between-all ratioUnder ratioOver roomAbove roomBelow ratios) i)
 
 -- ---- codes of narrow range: the position of each is that of an index
 abbrev sourceOf : ℕ → Depth → Range → Source
@@ -135,7 +139,7 @@ module _ (d : Depth) (p : Pixel) (peak : ℕ) (most : peak ≤ 10000) where
       → (i : Component) → Enclosed (ofCodes (coded d r) p) peak i (Unbent r (code (sourceOf peak d r) p i))
   unfolding code none
   unbent Narrow c = by-index d p peak most (AtMost 9 16) (omega arith) (λ I. nearer I peak most (below Narrow c))
-  unbent Full c = λ i. wider (λ g h. omega (arith, h)) (full-range d p peak most i)
+  unbent Full c = λ i. wider (λ g h. omega (arith, h, g .pos)) (full-range d p peak most i)
 
 -- the voted property of each source and pixel, and over all of them
 pub voted : (source : Source) (p : Pixel) → source .peak ≤ 10000 → Voted source p
