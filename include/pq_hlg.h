@@ -26,7 +26,9 @@ extern "C" {
 
    A pixel is six bytes: red, green and blue as 16-bit samples, each with its high byte first. row holds PQ codes of the given
    format, at most 8,192 pixels; dst gets HLG codes from 64 to 1,019 in the same layout, ten bits and narrow range in every
-   case. The peak is the one that the title declares, in whole cd/m2. An empty span (first equal to end) is accepted.
+   case. None is farther than 9/16 of a code from what the published formulas give unrounded, bent or not; of full-range
+   samples one and a half codes. The peak is the one that the title declares, in whole cd/m2. An empty span (first equal to
+   end) is accepted.
 
    Of format only bits 3 and 4 are read; the other 62 may be anything. Each format takes these samples, and reads those below
    its black or above its nominal peak as that:

@@ -131,6 +131,26 @@ def sixteenths(n):
     return [scene_light(Decimal(16 * i + n) / 14016) for i in range(len(STEPS))]
 
 
+SIXTEENTHS = sixteenths(7), sixteenths(9)
+
+
+def farthest(t, **other):
+    """As far below and above a step as a few units take a component, and then as the ratio does."""
+    n = {**N, **other}
+    down, up, part = max(t - n["roomBelow"], 0), t + n["roomAbove"], n["ratioPart"]
+    return down - (down // part + 1), up + (up // part + 1)
+
+
+def nine(**other):
+    """The tests of 9/16 either side: 7/16 above the code before a step, and 9/16."""
+    return all(under <= low and high <= over for (low, high), under, over in zip((farthest(t, **other) for t in STEPS), *SIXTEENTHS))
+
+
+def part_fits(p, part):
+    """What the ratio (p + 1) / p is in scene light, the sixth root of its seventh power, adds no more than this part."""
+    return (p + 1) ** 7 * part**6 <= p**7 * (part + 1) ** 6
+
+
 def slow(cells=None, **other):
     """`slow` of BentLightTests: the ratio over the way from a bent position to a point, cell by cell."""
     n = {**N, **other}
@@ -243,11 +263,8 @@ def full_rows():
 
 def rows():
     """name, the least that would do, the most, and where they come from"""
-    over, under = sixteenths(9), sixteenths(7)
-    nine_up = min(int(e) - t for e, t in zip(over, STEPS))
-    nine_down = min(t - int(-(-e // 1)) for e, t in zip(under, STEPS))
     off, lowest = bent()
-    p, q, reach = N["ratioUnder"], N["ratioOver"], N["positionsOff"] + N["pointsApart"]
+    part, reach = N["ratioPart"], N["positionsOff"] + N["pointsApart"]
     yield "leastLight", LIGHTS[1], LIGHTS[1], "entry 1"
     yield "leastLuminance", least(lambda y: slope_above(leastLuminance=y) and slope_below(leastLuminance=y), 10**6), BLUE * LIGHTS[1], "slopes; entry 1"
     yield "resultAbove", 3, most(lambda s: add_high(resultAbove=s), 0), "`sum-up`; room above"
@@ -256,11 +273,11 @@ def rows():
     yield "luminanceAbove", 3 * WEIGHTS, most(lambda h: add_low(luminanceAbove=h), 0), "`sum-up`; room below"
     yield "slopeAbove", least(lambda v: slope_above(slopeAbove=v), 10**6), most(lambda v: add_high(slopeAbove=v), 0), "least luminance; room above"
     yield "slopeBelow", least(lambda v: slope_below(slopeBelow=v), 10**6), most(lambda v: add_low(slopeBelow=v), 0), "least luminance; room below"
-    up, down = most(lambda u: between_steps(p, q, roomAbove=u), 0), most(lambda l: between_steps(p, q, roomBelow=l), 0)
-    yield "roomAbove", least(lambda u: add_high(roomAbove=u), 10**6), min(nine_up, up), "units off; 9/16, ratio"
-    yield "roomBelow", least(lambda l: add_low(roomBelow=l), 10**6), min(nine_down, down), "units off; 7/16, ratio"
-    yield "ratioUnder", least(lambda n: n > 0 and between_steps(n, n + 1), 10**6), most(lambda n: slow(ratioUnder=n), 1), "steps; cells of bent light"
+    yield "roomAbove", least(lambda u: add_high(roomAbove=u), 10**6), most(lambda u: nine(roomAbove=u), 0), "units off; 9/16"
+    yield "roomBelow", least(lambda l: add_low(roomBelow=l), 10**6), most(lambda l: nine(roomBelow=l), 0), "units off; 7/16"
+    yield "ratioUnder", least(lambda n: n > 0 and part_fits(n, part), 10**6), most(lambda n: slow(ratioUnder=n), 1), "its part; cells of bent light"
     yield "ratioOver", N["ratioUnder"] + 1, N["ratioUnder"] + 1, "one more"
+    yield "ratioPart", least(lambda n: n > 0 and nine(ratioPart=n), 10**6), most(lambda n: part_fits(N["ratioUnder"], n), 1), "9/16; the ratio"
     yield "positionsOff", off, most(lambda n: slow(positionsOff=n), 0, 1000), "narrow codes under every peak; cells of bent light"
     yield "kneeHalves", 5, 5, "J high and H high; `curve-place`"
     yield "leastBent", CELL * N["firstCell"] + reach, lowest, "first cell; lowest bent position"
@@ -269,7 +286,7 @@ def rows():
     yield "thousandAt", T, T, "the position of 1,000 cd/m2"
     yield "pointsApart", 1, most(lambda n: slow(pointsApart=n), 1, 1000), "cells of bent light"
     yield "firstPointCell", least(points_hold, N["firstPointCell"]), (N["leastBent"] - reach) // CELL, "formula; lowest bent position"
-    yield ("lastPointCell", (T + reach) // CELL, most(points_hold, N["lastPointCell"], len(LIGHTS) - 1), "1,000 cd/m2; formula")
+    yield "lastPointCell", (T + reach) // CELL, most(points_hold, N["lastPointCell"], len(LIGHTS) - 1), "1,000 cd/m2; formula"
     yield from full_rows()
 
 

@@ -1,9 +1,9 @@
 -- The bent light of a pixel whose X is at a position, or between it and the next, enclosed: by what encloses the light there where the curve doesn't
--- bend it, else by the lights of points, within a ratio. Then of one whose X is the signal of an index of the light table.
+-- bend it, else by the lights of points, within a ratio. Then of one whose X is the signal of an index of the light table, in both ways within the ratio.
 use mathlib.Core.Path.{_≡_, refl, _∙_, ap, subst}
 use mathlib.Core.Logic.{_⊎_, inl, inr}
 use Prim.Native.Nat.{ℕ, pred, min, _+_, _-_, _*_, _≤_, _<_}
-use native.Mathlib.Nat.{le-refl}
+use native.Mathlib.Nat.{le-refl, lt-of-not-le}
 use native.Mathlib.Decide.{decLe}
 use native.Mathlib.Omega.{arith}
 use Rattle.laws.specs.Fraction.{Fraction, over, whole, _≼_}
@@ -253,14 +253,20 @@ module _ {G : Given} {x : Pixel} {m : ℕ} (I : Indexed G x m) (peak : ℕ) (mos
   own-light high l c =
       light-high (I .k) l (I .range) (record { cross = omega (arith, I .at) }) (subst (λ e. around entries high e ≼ l) at-entry (record { cross = c }))
 
-  pub left : Left peak m → Enclosure 1 1 G peak m
+  left : Left peak m → Enclosure ratioUnder ratioOver G peak m
   left c =
       let seen : leastLight ≤ bentLight peak (lightAt m) m = omega (arith, left-is peak m most c, lit-light, thousand-ge) in
       record {
         b = λ s. end entries s (bentLight peak (lightAt m) m);
         lights = left-lights placed peak most (end entries) (λ u v h. omega arith) (λ u. (omega arith, omega arith)) own-light c;
-        within = record { lower = le-refl _; upper = le-refl _; bent = bent-le-self peak m; seen = seen };
+        within = record { lower = omega arith; upper = omega arith; bent = bent-le-self peak m; seen = seen };
       }
 
-  pub on-curve : 1000 < peak → 3 * thousandAt < 2 * m + kneeHalves + positionOf (peak * units) → Enclosure ratioUnder ratioOver G peak m
-  on-curve = curve-lights placed peak most
+  -- bent or not
+  pub enclosure : Enclosure ratioUnder ratioOver G peak m
+  enclosure = go (decLe peak 1000) (decLe (2 * m + kneeHalves + positionOf (peak * units)) (3 * thousandAt))
+    where
+      go : Dec (peak ≤ 1000) → Dec (2 * m + kneeHalves + positionOf (peak * units) ≤ 3 * thousandAt) → Enclosure ratioUnder ratioOver G peak m
+      go (yes h) c = left (inl h)
+      go (no h) (yes g) = left (inr g)
+      go (no h) (no g) = curve-lights placed peak most (lt-of-not-le h) (lt-of-not-le g)

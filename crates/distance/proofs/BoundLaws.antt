@@ -24,6 +24,10 @@ module _ {G : Given} (S : Sound G) (peak : ℕ) (i : Component) where
           lt-of-mul-lt-mul-right (g .den * h .den)
           (omega (arith, o .cross, mul-lt-mul-of-pos-right (u .above) (h .pos), mul-lt-mul-of-pos-right (v .below) (g .pos)))
 
+  -- so two deliveries of a narrow-range picture under one peak differ by a code at most
+  pub neighbours : (c d : ℕ) → Enclosed G peak i (LessThan 1 c) → Enclosed G peak i (LessThan 1 d) → c ≤ d + 1
+  neighbours c d x y = omega (arith, near-codes 1 c d x y)
+
   pub nearer-codes : (n k c d : ℕ) → Enclosed G peak i (AtMost n k c) → Enclosed G peak i (AtMost n k d) → k * c ≤ k * d + 2 * n
   nearer-codes n k c d x y = go (x .fraction low) (y .fraction high) (enclosures-ordered x y) (x .inside low) (y .inside high)
     where
@@ -32,24 +36,20 @@ module _ {G : Given} (S : Sound G) (peak : ℕ) (i : Component) where
           le-of-mul-le-mul-right {k = g .den * h .den}
           (omega (arith, mul-le-mul-left k (o .cross), mul-le-mul-right (h .den) (u .above), mul-le-mul-right (g .den) (v .below))) (mul-pos (g .pos) (h .pos))
 
-  -- which for whole codes is one at most
-  pub neighbours : (c d : ℕ) → Enclosed G peak i (AtMost 9 16 c) → Enclosed G peak i (AtMost 9 16 d) → c ≤ d + 1
-  neighbours c d x y = omega (arith, nearer-codes 9 16 c d x y)
-
-  -- in a black pixel the bounds admit the codes 63 to 65, and 64
+  -- in a black pixel either bound of narrow range admits the code 64 alone
   black : (g : Fraction) → G .level ≡ 0 → Signal G low peak i g → g .num ≡ 0
   unfolding Signal
   black g e (inl a) = omega (arith, a .1)
   black g e (inr a) = absurd (omega (arith, a .0))
 
-  pub black-near : (d : ℕ) → G .level ≡ 0 → Enclosed G peak i (LessThan 2 d) → (63 ≤ d) × (d ≤ 65)
+  pub black-near : (d : ℕ) → G .level ≡ 0 → Enclosed G peak i (LessThan 1 d) → d ≡ 64
   black-near d e x = go (x .fraction low) (black (x .fraction low) e (x .signals low)) (x .inside low)
     where
-      go : (g : Fraction) → g .num ≡ 0 → LessThan 2 d g → (63 ≤ d) × (d ≤ 65)
+      go : (g : Fraction) → g .num ≡ 0 → LessThan 1 d g → d ≡ 64
       go g z u =
-          let more : 62 < d = lt-of-mul-lt-mul-right (g .den) (omega (arith, u .below)) in
-          let less : d < 66 = lt-of-mul-lt-mul-right (g .den) (omega (arith, u .above)) in
-          (more, omega arith)
+          let more : 63 < d = lt-of-mul-lt-mul-right (g .den) (omega (arith, u .below)) in
+          let less : d < 65 = lt-of-mul-lt-mul-right (g .den) (omega (arith, u .above)) in
+          omega arith
 
   pub black-nearer : (d : ℕ) → G .level ≡ 0 → Enclosed G peak i (AtMost 9 16 d) → d ≡ 64
   black-nearer d e x = go (x .fraction low) (black (x .fraction low) e (x .signals low)) (x .inside low)

@@ -34,12 +34,16 @@ roomAbove = 30000
 abbrev pub roomBelow : ℕ
 roomBelow = 27000
 
--- ---- the bent light lies within this ratio of the engine's
+-- ---- the bent light lies within this ratio of the engine's, and so does the light where nothing is bent
 abbrev pub ratioUnder : ℕ
 ratioUnder = 4130
 
 abbrev pub ratioOver : ℕ
 ratioOver = 4131
+
+-- in scene light that takes no more than a part of so many
+abbrev pub ratioPart : ℕ
+ratioPart = 3525
 
 -- positions that the bent signal lies off the curve's, and half positions below the knee where X surely serves itself
 abbrev pub positionsOff : ℕ

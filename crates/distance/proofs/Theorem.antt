@@ -1,16 +1,14 @@
 -- Demand 3, whole: every peak from 1 to 10,000, every depth and range and every pixel of codes that are taken, about the definitions of mapped
 -- components and HLG codes.
 use mathlib.Core.Path.{_≡_, _∙_, sym, ap, subst}
-use mathlib.Core.Logic.{_⊎_, inl, inr}
-use Prim.Native.Nat.{ℕ, _+_, _-_, _*_, _≤_, _<_}
-use native.Mathlib.Nat.{le-refl, le-of-eq, lt-of-not-le}
+use Prim.Native.Nat.{ℕ, _*_, _≤_, _<_}
+use native.Mathlib.Nat.{le-of-eq}
 use native.Mathlib.Decide.{decLe}
 use native.Mathlib.Omega.{arith}
 use lib.Dec.{lit<}
 use Rattle.laws.specs.Fraction.{Fraction}
 use Rattle.laws.specs.Side.{low, high}
 use Rattle.laws.proofs.SideLaws.{at-refl}
-use Rattle.quantity.specs.Units.{units}
 use Rattle.quantity.specs.declared.sample_format.Depth.{Depth}
 use Rattle.quantity.specs.declared.sample_format.Range.{Range}
 use Rattle.quantity.specs.declared.sample_format.Range.the-variants.{Narrow, Full}
@@ -19,24 +17,24 @@ use Rattle.quantity.specs.declared.Source.{Source}
 use Rattle.quantity.specs.SampleFormat.{excursion, coded}
 use Rattle.quantity.specs.Component.{Component, Pixel, brightest}
 use Rattle.pq.specs.Pq.{positionSignal}
-use Rattle.position.specs.Position.{lightAt, positionOf}
+use Rattle.position.specs.Position.{lightAt}
 use Rattle.position.specs.Code.{aboveBlack, codeSignal, codePosition}
 use Rattle.position.proofs.CodeLaws.{black-light, narrow-position}
-use Rattle.position.proofs.PeakLaws.{thousand-position}
 use Rattle.eetf.specs.Curve.{bentLight}
 use Rattle.eetf.proofs.CurveLaws.{bent-le-thousand}
 use Rattle.pixel.specs.Conversion.{mappedOf, codeOf, lights, brightestPosition, code}
 use Rattle.pixel.proofs.PixelLaws.{Mapped, light-ratio-kept, light-of-brightest, brightest-lit, code-dark, mapped-at-most}
 use Rattle.pixel.proofs.OrderLaws.{ordered, greys}
 use Rattle.exact.specs.ExactValue.{Given, ofCodes}
-use Rattle.distance.specs.Demand.{LessThan, AtMost, Enclosed, BelowKnee, Unbent, Anywhere, Voted, Demand}
-use Rattle.distance.proofs.FoundNumbers.{roomAbove, roomBelow, ratioUnder, ratioOver, kneeHalves, thousandAt}
-use Rattle.distance.proofs.StepTests.{sixteenths-low, sixteenths-high, ratios}
-use Rattle.distance.proofs.CodeDistance.{Ending, nine-sixteenths, between-all, none}
+use Rattle.distance.specs.Demand.{AtMost, Enclosed, Unbent, Anywhere, Throughout, Voted, Demand}
+use Rattle.distance.proofs.FoundNumbers.{roomAbove, roomBelow, ratioUnder, ratioOver}
+use Rattle.distance.proofs.StepTests.{farthest, sixteenths-low, sixteenths-high}
+use Rattle.distance.proofs.StepLaws.{farthest-high, farthest-low}
+use Rattle.distance.proofs.CodeDistance.{Ending, nine-sixteenths, none}
 use Rattle.distance.proofs.PixelDistance.{bounded, wider, black}
 use Rattle.distance.proofs.LightLaws.{entries, same-light, codeIndex, index-range, index-signal, index-some, code-light}
 use Rattle.distance.proofs.FullRangeDistance.{full-range}
-use Rattle.distance.proofs.BentLightLaws.{Indexed, Enclosure, lit-light, own-light, left, on-curve}
+use Rattle.distance.proofs.BentLightLaws.{Indexed, Enclosure, lit-light, own-light, enclosure}
 
 -- ---- a pixel whose brightest light is that of an index, m being its position
 module _ {G : Given} {x : Pixel} {m : ℕ} (I : Indexed G x m) (peak : ℕ) (most : peak ≤ 10000) where
@@ -53,29 +51,11 @@ module _ {G : Given} {x : Pixel} {m : ℕ} (I : Indexed G x m) (peak : ℕ) (mos
   by-enclosure E =
       bounded entries (I .seen) (I .own) (λ s. I .most s _ (own-light I peak most s _ (at-refl s _))) (E .lights) (E .within) maps (bent-le-thousand peak m)
 
-  -- up to 1,000 cd/m2, or so many half positions below the knee, which a whole code is
-  nearer : (peak ≤ 1000) ⊎ (2 * m + kneeHalves + positionOf (peak * units) ≤ 3 * thousandAt)
-      → (i : Component) → Enclosed G peak i (AtMost 9 16 (codeOf peak x m i))
-  nearer c =
-      by-enclosure (left I peak most c) (lit< tt) (lit< tt)
-      (nine-sixteenths 1 1 roomAbove roomBelow (λ t. t + roomAbove) (λ t. t - roomBelow) sixteenths-high sixteenths-low (λ t. le-refl _) (λ t. le-refl _))
-
-  near-two : (i : Component) → Enclosed G peak i (LessThan 2 (codeOf peak x m i))
-  near-two i = go (decLe peak 1000) (decLe (2 * m + kneeHalves + positionOf (peak * units)) (3 * thousandAt))
-    where
-      less : (d : ℕ) (g : Fraction) → AtMost 9 16 d g → LessThan 2 d g
-      less d g h = omega (arith, g .pos)
-
-      by-steps : (d : ℕ) (g : Fraction) → AtMost 3 2 d g → LessThan 2 d g
-      by-steps d g h = omega (arith, g .pos)
-
-      go : Dec (peak ≤ 1000) → Dec (2 * m + kneeHalves + positionOf (peak * units) ≤ 3 * thousandAt) → Enclosed G peak i (LessThan 2 (codeOf peak x m i))
-      go (yes h) c = wider (less _) (nearer (inl h) i)
-      go (no h) (yes g) = wider (less _) (nearer (inr g) i)
-      go (no h) (no g) =
-          wider (by-steps _)
-          (by-enclosure (on-curve I peak most (lt-of-not-le h) (lt-of-not-le g)) (lit< tt) (lit< tt)
-          (between-all ratioUnder ratioOver roomAbove roomBelow ratios) i)
+  -- which is 9/16 of a code, bent or not
+  near : (i : Component) → Enclosed G peak i (AtMost 9 16 (codeOf peak x m i))
+  near =
+      by-enclosure (enclosure I peak most) (lit< tt) (lit< tt)
+      (nine-sixteenths ratioUnder ratioOver roomAbove roomBelow (farthest high) (farthest low) sixteenths-high sixteenths-low farthest-high farthest-low)
 
 -- ---- codes of narrow range: the position of each is that of an index
 abbrev sourceOf : ℕ → Depth → Range → Source
@@ -122,32 +102,30 @@ module _ (d : Depth) (p : Pixel) (peak : ℕ) (most : peak ≤ 10000) where
           (black e zero)
 
 -- ---- either range
-module _ (d : Depth) (p : Pixel) (peak : ℕ) (most : peak ≤ 10000) where
-  near : (r : Range) (i : Component) → Enclosed (ofCodes (coded d r) p) peak i (Anywhere r (code (sourceOf peak d r) p i))
-  unfolding code none
-  near Narrow = by-index d p peak most (LessThan 2) (omega arith) (λ I. near-two I peak most)
-  near Full = λ i. wider (λ g h. omega (arith, h, g .pos)) (full-range d p peak most i)
+throughout : (d : Depth) (r : Range) (p : Pixel) (peak : ℕ) → peak ≤ 10000
+    → (i : Component) → Enclosed (ofCodes (coded d r) p) peak i (Throughout r (code (sourceOf peak d r) p i))
+unfolding code none
+throughout d Narrow p peak most = by-index d p peak most (AtMost 9 16) (omega arith) (λ I. near I peak most)
+throughout d Full p peak most = full-range d p peak most
 
-  -- the zone of a source is that of its position
-  below : (r : Range) → (peak ≤ 1000) ⊎ BelowKnee (sourceOf peak d r) p
-      → (peak ≤ 1000) ⊎ (2 * brightestPosition (coded d r) p + kneeHalves + positionOf (peak * units) ≤ 3 * thousandAt)
-  unfolding brightestPosition
-  below r (inl h) = inl h
-  below r (inr h) = inr (omega (arith, thousand-position))
+-- which gives what was asked of all pixels, and of those that are not bent
+as-anywhere : (r : Range) (d : ℕ) (g : Fraction) → Throughout r d g → Anywhere r d g
+as-anywhere Narrow d g h = omega (arith, h, g .pos)
+as-anywhere Full d g h = omega (arith, h, g .pos)
 
-  unbent : (r : Range) → (peak ≤ 1000) ⊎ BelowKnee (sourceOf peak d r) p
-      → (i : Component) → Enclosed (ofCodes (coded d r) p) peak i (Unbent r (code (sourceOf peak d r) p i))
-  unfolding code none
-  unbent Narrow c = by-index d p peak most (AtMost 9 16) (omega arith) (λ I. nearer I peak most (below Narrow c))
-  unbent Full c = λ i. wider (λ g h. omega (arith, h, g .pos)) (full-range d p peak most i)
+as-unbent : (r : Range) (d : ℕ) (g : Fraction) → Throughout r d g → Unbent r d g
+as-unbent Narrow d g h = h
+as-unbent Full d g h = omega (arith, h, g .pos)
 
 -- the voted property of each source and pixel, and over all of them
 pub voted : (source : Source) (p : Pixel) → source .peak ≤ 10000 → Voted source p
 voted source p most =
-    let f = source .format in
+    let r = source .format .range in
+    let all = throughout (source .format .depth) r p (source .peak) most in
     record {
-      near = near (f .depth) p (source .peak) most (f .range);
-      nearer = unbent (f .depth) p (source .peak) most (f .range);
+      near = λ i. wider (as-anywhere r (code source p i)) (all i);
+      nearer = λ c i. wider (as-unbent r (code source p i)) (all i);
+      throughout = all;
       capped = mapped-at-most source p;
       ordered = ordered source p;
       greys = λ c d from l to. greys source c d l;

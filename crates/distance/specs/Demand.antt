@@ -34,22 +34,29 @@ pub record Enclosed (G : Given) (peak : ℕ) (i : Component) (Inside : Fraction 
 abbrev pub BelowKnee : Source → Pixel → Type 0
 BelowKnee source p = 2 * codePosition (source .format) (brightest p) + 2048 + positionOf (source .peak * units) ≤ 3 * positionOf thousand
 
--- request 06: how near a code lies where the curve does not bend, or not yet, and how near it lies anywhere
+-- how near a code lies where the curve does not bend, or not yet (request 06), and how near it lies anywhere (of narrow range request 10)
 abbrev pub Unbent : Range → ℕ → Fraction → Type 0
 Unbent Narrow = AtMost 9 16
 Unbent Full = LessThan 2
 
 abbrev pub Anywhere : Range → ℕ → Fraction → Type 0
-Anywhere Narrow = LessThan 2
+Anywhere Narrow = LessThan 1
 Anywhere Full = LessThan 4
+
+-- and what holds throughout, bent or not: both follow from it
+abbrev pub Throughout : Range → ℕ → Fraction → Type 0
+Throughout Narrow = AtMost 9 16
+Throughout Full = AtMost 3 2
 
 -- demand 3 of one source and one pixel
 pub record Voted (source : Source) (p : Pixel) : Type 0 where
-  -- each code is less than two codes away from its exact value, of full-range codes less than four
+  -- each code is less than one code away from its exact value, of full-range codes less than four
   pub near : (i : Component) → Enclosed (ofCodes (source .format) p) (source .peak) i (Anywhere (source .format .range) (code source p i))
   -- and at most 9/16 of a code where the curve does not bend, or not yet; of full-range codes less than two
   pub nearer : (source .peak ≤ 1000) ⊎ BelowKnee source p
       → (i : Component) → Enclosed (ofCodes (source .format) p) (source .peak) i (Unbent (source .format .range) (code source p i))
+  -- and throughout at most 9/16 of a code, of full-range codes at most one and a half
+  pub throughout : (i : Component) → Enclosed (ofCodes (source .format) p) (source .peak) i (Throughout (source .format .range) (code source p i))
   -- no mapped component exceeds 1,000 cd/m2
   pub capped : (i : Component) → mapped source p i ≤ thousand
   -- a component light at least as large as another gives a mapped component and a code at least as large
