@@ -93,7 +93,7 @@ def largest_distances(engine, unbent):
 
 
 def panel(picture, top, height, scale, ticks, name, last=False):
-    """One frame over the grey codes, with the voted bound."""
+    """One frame over the grey codes, with the promised bound."""
     frame = Frame(picture, 75, top, 690, height, lambda D: (D - 64) / 876, scale)
     frame.grid(TICKS, ticks, "PQ code of the grey" if last else "", x_words=last)
     picture.words(83, top + 13, name, bold=True, size=11)
@@ -116,7 +116,7 @@ def draw_distances(codes, largest):
     picture = Picture(800, 860, "Distance of HLG codes of greys from their exact values")
     picture.words(75, 26, "Distance from the exact value, in HLG codes, of every grey", bold=True, size=13)
     picture.line(525, 22, 560, 22, "#b00020", 1, "5 4")
-    picture.words(566, 26, "9/16 (voted below the knee)", size=11)
+    picture.words(566, 26, "9/16 (promised)", size=11)
     for i, (L, colour) in enumerate(zip(PEAKS, COLOURS)):
         frame = panel(picture, 42 + 150 * i, 135, lambda y: (y + 0.9) / 1.8, (-0.5, 0, 0.5), f"peak {L:,}")
         distances = signed_distances(L, codes[L])

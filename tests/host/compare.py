@@ -375,7 +375,7 @@ def main(arguments):
         return 1
     print(f"{time.monotonic() - start:.0f} s")
     if not sound:
-        print("DIFFERENT: a code is farther from its exact value than was voted")
+        print("DIFFERENT: a code is farther from its exact value than is promised")
     return 0 if sound else 1
 
 

@@ -8,7 +8,7 @@ from heapq import heappush, heappushpop
 
 from tests.reference import exact
 from tests.reference.sample_format import FORMATS, TEN_NARROW
-from tests.reference.survey import bound, distance_of, in_inner_zone, near_enough
+from tests.reference.survey import bound, distance_of, in_inner_zone
 
 KEPT = 30                                # farthest pixels measured again in each zone of each format
 
@@ -46,15 +46,14 @@ class Distances:
                    for distance, *found in (*self.sample, *(found for zones in self.kept.values() for kept in zones.values() for found in kept)))
 
     def report(self):
-        """Prints the worst of each zone; False if one is farther than was voted."""
+        """Prints the worst of each zone; False if one is farther than is promised."""
         error = self.error_of_doubles()
         print(f"distances: {self.count:,} pixels in doubles, {len(self.sample):,} of them and the farthest "
               f"in 80 digits; doubles err by {error:.1e}")
         sound = error < 1e-6
         for form, inner in ((form, inner) for form in FORMATS for inner in (True, False) if self.kept[form][inner]):
             distance, L, pixel, codes = self.worst(form, inner)
-            most, reached = bound(inner, form)
-            held = f"at most {most}" if reached else f"less than {most}"
-            print(f"distances: {form}, held to {held}: worst {distance:.9f} at peak {L}, pixel {pixel}, codes {codes}")
-            sound &= near_enough(distance, inner, form)
+            zone = "unbent or a low peak" if inner else "others"
+            print(f"distances: {form}, {zone}, held to {bound(form)}: worst {distance:.9f} at peak {L}, pixel {pixel}, codes {codes}")
+            sound &= distance <= bound(form)
         return sound

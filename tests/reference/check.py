@@ -30,7 +30,7 @@ from .rounding import power, power_below
 from .sample_format import FORMATS, FULL_RANGE, TEN_FULL, TEN_NARROW, TWELVE_BITS, TWELVE_FULL, TWELVE_NARROW, Format, format_of
 from .samples import MARKED_PEAKS, draw_measured_row, draw_palette, draw_peaks, draw_pixel
 from .scene_light import S
-from .survey import bound, in_inner_zone, near_enough, quick_distance
+from .survey import bound, in_inner_zone, quick_distance
 from .vectors import FILL, converted, measured
 from .ycbcr import by_fractions, convert_codes, luma_sum, round_away, unrounded, ycbcr
 
@@ -1125,16 +1125,14 @@ def return_rows():
 def distance():
     random = Random(5)
     for form in FORMATS:
-        inner, outer = (f"{'at most' if reached else 'less than'} {most}" for most, reached in (bound(True, form), bound(False, form)))
         cases = [(L, draw_pixel(random, L, form)) for L in draw_peaks(random, 120) for _ in range(100 if form == TEN_NARROW else 40)]
-
-        def allowed(distance, case):
-            return near_enough(distance, in_inner_zone(*case, form), form)
-        yield f"{form}: quick distances, {inner} in the inner zone, {outer} elsewhere", all(
-            allowed(quick_distance(*case, form), case) for case in cases)
+        yield f"{form}: quick distances, bent or not, are at most {bound(form)}", all(quick_distance(*case, form) <= bound(form) for case in cases)
         some = random.sample(cases, 400 if form == TEN_NARROW else 200)
         far = [max(exact.distances(L, pixel, hlg_codes(L, pixel, form), form)) for L, pixel in some]
-        yield f"{form}: long decimals say the same", all(map(allowed, far, some))
+        yield f"{form}: long decimals say the same", max(far) <= bound(form)
+        zones = [in_inner_zone(*case, form) for case in some]
+        yield f"{form}: both zones are among them, with hundreds of all pixels and dozens of those in long decimals", (
+            24 < sum(zones) < len(zones) - 24 and 100 < sum(in_inner_zone(*case, form) for case in cases) < len(cases) - 100)
         yield f"{form}: doubles and long decimals agree", all(
             abs(float(d) - quick_distance(*case, form)) < 1e-9 for d, case in zip(far, some))
         yield f"{form}: no mapped component exceeds 1,000 cd/m2", all(max(mapped_components(*case, form)) <= A for case in cases)
@@ -1147,8 +1145,6 @@ def distance():
         yield f"{form}: a brighter component stays at least as bright", all(ordered(*case) for case in cases)
     yield "a black pixel has exact values 64", exact.exact_values(4_000, (4, 64, 30)) == exact.exact_values(4_000, (16, 256, 30), TWELVE_NARROW) == (
         exact.exact_values(4_000, (0, 0, 0), TEN_FULL)) == (64, 64, 64)
-    yield "the zones are the same in all formats, and full range has wider bounds", [bound(inner, form) for form in FORMATS for inner in (True, False)] == [
-        (0.5625, True), (2, False), (0.5625, True), (2, False), (2, False), (4, False), (2, False), (4, False)]
     farthest = quick_distance(1_000, (0, 1, 0), TWELVE_FULL)
     yield "the dimmest green of twelve-bit full range lies 0.5201 away, farther than any narrow pixel found", 0.5201 < farthest < 0.5202
 

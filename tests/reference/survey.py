@@ -26,7 +26,7 @@ c1, c2, c3 = float(exact.c1), float(exact.c2), float(exact.c3)
 a, b, c = float(exact.a), float(exact.b), float(exact.c)
 KEPT = 30                                   # pixels measured again in each zone
 LOWEST = 16                                 # codes of which every pixel is tried
-FARTHEST = {False: 0.51, True: 0.53}        # what is expected of narrow and of full range: far less than was voted
+FARTHEST = {False: 0.51, True: 0.53}        # what is expected of narrow and of full range: less than is promised
 
 
 @lru_cache(maxsize=None)
@@ -83,21 +83,13 @@ def quick_distance(L, pixel, form=TEN_NARROW):
 
 
 def in_inner_zone(L, pixel, form=TEN_NARROW):
-    """Demand 3's inner zone, where the closer distance holds: a low peak, or a whole code below the knee."""
+    """Demand 3's inner zone: a low peak, or a whole code below the knee."""
     return L <= 1_000 or 2 * position_of_code(max(pixel), form) + 2_048 <= 3 * t - position_of_peak(L)
 
 
-def bound(inner, form=TEN_NARROW):
-    """The voted distance of a zone, and whether it may be reached. Full range has wider ones."""
-    if form.full:
-        return (2, False) if inner else (4, False)
-    return (9 / 16, True) if inner else (2, False)
-
-
-def near_enough(distance, inner, form=TEN_NARROW):
-    """Whether a distance is one that was voted for."""
-    most, reached = bound(inner, form)
-    return distance <= most if reached else distance < most
+def bound(form=TEN_NARROW):
+    """The largest distance that is promised, in either zone: below what requests 06 and 10 ask for each."""
+    return 3 / 2 if form.full else 9 / 16
 
 
 @lru_cache(maxsize=None)
@@ -165,7 +157,7 @@ def main(arguments):
     for form in FORMATS:
         for zone, (number, (distance, L, pixel)) in survey(seed, count, form).items():
             name = "unbent or a low peak" if zone else "others"
-            print(f"{form}, {name}: {number} pixels, largest distance {distance:.12f} at peak {L}, pixel {pixel}", flush=True)
+            print(f"{form}, {name}: {number} pixels, largest distance {distance:.12f}, held to {bound(form)}, at peak {L}, pixel {pixel}", flush=True)
             bad |= distance > FARTHEST[form.full]
         for cached in (bent_light, bend_code):
             cached.cache_clear()
