@@ -10,7 +10,7 @@ use native.Mathlib.Omega.{arith}
 use borrow.Author.Tests.{le-ltb}
 use Rattle.quantity.specs.Component.{pixel, brightest}
 use Rattle.rows.specs.Row.{sampleAt, pixelAt}
-use Rattle.rows.specs.Answer.{outside, firstRefused}
+use Rattle.rows.specs.Answer.{outside, firstOf, firstRefused}
 use Rattle.content_light.specs.Bounds.{Bounded}
 
 -- ---- bounds pixel by pixel
@@ -54,7 +54,7 @@ from-zero x = record { above = λ i h. zero-le; below = x .below; reached = x .r
 -- no sample is refused
 none-refused : (refused : ℕ → Bool) (row : List ℕ) (i n : ℕ) → ((k : ℕ) → i ≤ k → k < i + n → refused (sampleAt row k) ≡ false)
     → firstRefused refused row i n ≡ i + n
-unfolding firstRefused
+unfolding firstOf
 none-refused refused row i zero h = omega arith
 none-refused refused row i (suc n) h =
     simp (h i (omega arith) (omega arith))

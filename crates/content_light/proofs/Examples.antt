@@ -14,7 +14,7 @@ use Rattle.position.specs.Position.{lightAt}
 use Rattle.position.specs.Code.{codeLight}
 use Rattle.pixel.specs.Conversion.{brightestLight, brightestPosition}
 use Rattle.rows.specs.Row.{sampleAt, pixelBytes}
-use Rattle.rows.specs.Answer.{outside, firstRefused, lengthRefused}
+use Rattle.rows.specs.Answer.{outside, firstOf, lengthRefused}
 use Rattle.content_light.specs.declared.RunRecord.{RunRecord}
 use Rattle.content_light.specs.declared.PeakAnswer.the-variants.{Peak, Refused}
 use Rattle.content_light.specs.declared.RecordAnswer.the-variants as answer
@@ -58,7 +58,7 @@ pub record Examples : Type 0 where
   pub no-pixel : measured (empty ∷ []) ≡ Refused 12
 
 pub examples : Examples
-unfolding units lightTable lightEntry numberAt lightAt codeLight brightestLight sampleAt pixelBytes outside firstRefused lengthRefused mostRows rowTest
+unfolding units lightTable lightEntry numberAt lightAt codeLight brightestLight sampleAt pixelBytes outside firstOf lengthRefused mostRows rowTest
     acceptedRows outshines after afterPixels afterRows roundedUp peakOf measured afterBy afterPixelsBy afterRowsBy formerlyMeasured
 examples =
     record {
@@ -97,6 +97,6 @@ darkRecord = record { rows = 9; pixels = 9; position = record { 0 = 3 }; row = 3
 
 pub dark-record :
     recordAnswer darkRecord (rowOf 64) ≡ answer.Measured (record { rows = 10; pixels = 10; position = record { 0 = 0 }; row = 9; pixel = 0 })
-unfolding lightTable lightEntry numberAt lightAt brightestPosition sampleAt pixelBytes outside firstRefused lengthRefused mostRows mostPixels rowTest
+unfolding lightTable lightEntry numberAt lightAt brightestPosition sampleAt pixelBytes outside firstOf lengthRefused mostRows mostPixels rowTest
     outshines takesOver withPixel withPixels withRow recordAnswer lastPosition
 dark-record = refl

@@ -10,9 +10,9 @@ use borrow.Author.Tests.{eq-eqb, ne-eqb, le-ltb}
 use Rattle.quantity.specs.declared.Source.{Source}
 use Rattle.pixel.specs.Conversion.{code}
 use Rattle.rows.specs.declared.RowAnswer.the-variants.{Converted, Refused}
-use Rattle.rows.specs.Row.{pixelAt, spanBytes}
+use Rattle.rows.specs.Row.{pixelAt, converted, spanBytes}
 use Rattle.rows.specs.Answer.{firstRefused, lengthRefused, destinationRefused, spanRefused, spanAnswer}
-use Rattle.rows.proofs.RowLaws.{length-span, pixel-of-span}
+use Rattle.rows.proofs.RowLaws.{length-pixels, pixel-of-span}
 use Rattle.pq_hlg.specs.Pixel.{peakRefused, sampleRefused}
 use Rattle.pq_hlg.specs.Row.{rowAnswer, destinationAfter}
 use Rattle.pq_hlg.proofs.TestLaws.{row-accepted}
@@ -32,7 +32,7 @@ pub converted-text : (source : Source) (row : List ℕ) (n room : ℕ)
 unfolding rowTextWithin rowText
 converted-text source row n room =
     let bytes = spanBytes (code source) row 0 n in
-    let l = length-span (code source) row 0 n in
+    let l = length-pixels (converted (code source) row) 0 n in
     let pixels : length bytes / 6 ≡ n = omega arith in
     let text = lines-same (pixelAt bytes) (λ j. code source (pixelAt row j)) n (pixel-of-span (code source) row n) in
     simp (eq-eqb (length bytes % 6) 0 (omega arith), pixels, text)

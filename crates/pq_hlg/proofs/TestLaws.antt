@@ -12,7 +12,7 @@ use Rattle.quantity.specs.Component.{Pixel}
 use Rattle.eetf.specs.Curve.{peakRead}
 use Rattle.rows.specs.declared.RowAnswer.{RowAnswer}
 use Rattle.rows.specs.declared.RowAnswer.the-variants.{Converted, Refused}
-use Rattle.rows.specs.Row.{convertedInto}
+use Rattle.rows.specs.Row.{converted, convertedInto}
 use Rattle.rows.specs.Answer.{outside, bytesAfter, hostNumber}
 use Rattle.rows.proofs.AnswerLaws.{neither, either, refused-not-converted, Accepted, accepted, host-number-fits, refused-after, converted-after}
 use Rattle.span.specs.Span.{sourceRead, hlgRead}
@@ -62,7 +62,7 @@ module _ (source : Source) (row : List ℕ) (bytes first end : ℕ) where
 module _ (f : Source → Pixel → Pixel) (source : Source) (row dst : List ℕ) (first end : ℕ) where
   pub row-refused : {a : RowAnswer} {number place : ℕ} → a ≡ rowAnswer source row (length dst) first end → a ≡ Refused number place
       → dst ≡ bytesAfter (rowAnswer source row (length dst) first end) (f source) row dst first end
-  row-refused e told = refused-after (f source) row dst first end (sym e ∙ told)
+  row-refused e told = refused-after (converted (f source) row) dst first end (sym e ∙ told)
 
   pub row-converted : (ys : List ℕ) (to : ℕ) → rowAnswer source row (length dst) first end ≡ Converted
       → ys ≡ convertedInto (f (sourceRead source)) (take (length row - 6 * first) (drop (6 * first) row)) (take (to - 6 * first) (drop (6 * first) dst))

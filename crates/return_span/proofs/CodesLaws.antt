@@ -10,7 +10,7 @@ use Rattle.inverse_oetf.specs.SceneTable.{sceneLight}
 use Rattle.inverse_oetf.proofs.SceneLaws.{scene-le}
 use Rattle.return_pixel.specs.Conversion.{pqCodes}
 use Rattle.return_pixel.proofs.PixelLaws.{codes-to}
-use Rattle.rows.specs.Row.{pixelAt, pixelBytes, spanBytes}
+use Rattle.rows.specs.Row.{pixelAt, pixelBytes, pixelsBytes, spanBytes}
 use Rattle.return_span.specs.Codes.{HasCodes}
 
 -- no code has more scene light than 1,019
@@ -34,5 +34,5 @@ codes-bytes p er eg eb h = let k = rw (er, eg, eb) at h in rw (k .red, k .green,
 
 -- one pixel more of a span
 pub span-more : (f : Pixel → Pixel) (row : List ℕ) (n : ℕ) → spanBytes f row 0 (n + 1) ≡ spanBytes f row 0 n ++ pixelBytes (f (pixelAt row n))
-unfolding spanBytes
+unfolding pixelsBytes
 span-more f row n = ap (spanBytes f row 0) (add-one n) ∙ ap (λ (k : ℕ). spanBytes f row 0 n ++ pixelBytes (f (pixelAt row k))) (zero-add n)

@@ -11,20 +11,19 @@ use borrow.Author.Tests.{ltb-true, ltb-false, eqb-true, not-false}
 use Rattle.quantity.specs.Component.{Pixel}
 use Rattle.rows.specs.declared.RowAnswer.{RowAnswer}
 use Rattle.rows.specs.declared.RowAnswer.the-variants.{Converted, Refused}
-use Rattle.rows.specs.Row.{sampleAt, convertedInto}
-use Rattle.rows.specs.Answer.{firstRefused, lengthRefused, destinationRefused, spanRefused, spanAnswer, bytesAfter, hostNumber}
-use Rattle.rows.proofs.RowLaws.{put-span}
+use Rattle.rows.specs.Row.{pixelsBytes, converted, convertedInto}
+use Rattle.rows.specs.Answer.{firstOf, firstRefused, lengthRefused, destinationRefused, spanRefused, spanAnswer, pixelsAfter, bytesAfter, hostNumber}
+use Rattle.rows.proofs.RowLaws.{span-of-part, put-span}
 use Rattle.rows.proofs.SpanLaws.{filled}
 
--- ---- the search for a refused sample, one sample on, and at its end
-pub refused-here : (refused : ℕ → Bool) (row : List ℕ) (i to : ℕ) → i < to
-    → firstRefused refused row i (to - i) ≡ cond (refused (sampleAt row i)) i (firstRefused refused row (i + 1) (to - (i + 1)))
-unfolding firstRefused
-refused-here refused row i to h = let e : to - i ≡ suc (to - (i + 1)) = omega arith in ap (firstRefused refused row i) e
+-- ---- the search for a refused place, one place on, and at its end
+pub refused-here : (refused : ℕ → Bool) (i to : ℕ) → i < to → firstOf refused i (to - i) ≡ cond (refused i) i (firstOf refused (i + 1) (to - (i + 1)))
+unfolding firstOf
+refused-here refused i to h = let e : to - i ≡ suc (to - (i + 1)) = omega arith in ap (firstOf refused i) e
 
-pub refused-none : (refused : ℕ → Bool) (row : List ℕ) (i n : ℕ) → n ≡ 0 → firstRefused refused row i n ≡ i
-unfolding firstRefused
-refused-none refused row i n e = ap (firstRefused refused row i) e
+pub refused-none : (refused : ℕ → Bool) (i n : ℕ) → n ≡ 0 → firstOf refused i n ≡ i
+unfolding firstOf
+refused-none refused i n e = ap (firstOf refused i) e
 
 -- ---- tests that are passed
 pub neither : (a b : Bool) → a || b ≡ false → (a ≡ false) × (b ≡ false)
@@ -99,22 +98,31 @@ module _ (refused : ℕ → Bool) (row : List ℕ) (bytes first end : ℕ) where
       let k = ltb-true i (3 * end) d in
       omega arith) (λ _. omega arith))))
 
--- ---- the destination of a refused call, and of one that converts
-module _ (f : Pixel → Pixel) (row dst : List ℕ) (first end : ℕ) {a : RowAnswer} where
-  pub refused-after : {number place : ℕ} → a ≡ Refused number place → dst ≡ bytesAfter a f row dst first end
-  refused-after told = sym (ap (λ (x : RowAnswer). bytesAfter x f row dst first end) told)
+-- ---- the destination of a refused call, and of one that converts into the part of it that the span has
+module _ (p : ℕ → Pixel) (dst : List ℕ) (first end : ℕ) {a : RowAnswer} where
+  pub refused-after : {number place : ℕ} → a ≡ Refused number place → dst ≡ pixelsAfter a p dst first end
+  refused-after told = sym (ap (λ (x : RowAnswer). pixelsAfter x p dst first end) told)
 
-  pub converted-after : (ys : List ℕ) (to : ℕ) → a ≡ Converted → Accepted row (length dst) first end → to ≡ 6 * end
-      → ys ≡ convertedInto f (take (length row - 6 * first) (drop (6 * first) row)) (take (to - 6 * first) (drop (6 * first) dst))
-      → take (6 * first) dst ++ (ys ++ drop (to - 6 * first) (drop (6 * first) dst)) ≡ bytesAfter a f row dst first end
-  converted-after ys to told k at-end y =
-      let src = take (length row - 6 * first) (drop (6 * first) row) in
-      let part = take (to - 6 * first) (drop (6 * first) dst) in
-      let room : length part ≡ 6 * (end - first) = simp (length-take, length-drop) (omega (arith, k .same, k .within)) in
-      let enough : 6 * (end - first) ≤ length src = simp (length-take, length-drop) (omega (arith, k .within)) in
+  pub pixels-after : (ys : List ℕ) (to : ℕ) → a ≡ Converted → first ≤ end → to ≡ 6 * end → ys ≡ pixelsBytes p first (end - first)
+      → take (6 * first) dst ++ (ys ++ drop (to - 6 * first) (drop (6 * first) dst)) ≡ pixelsAfter a p dst first end
+  pixels-after ys to told ordered at-end y =
       ap (λ (n : ℕ). take (6 * first) dst ++ (ys ++ drop (n - 6 * first) (drop (6 * first) dst))) at-end
-      ∙ put-span f row dst ys first end (k .ordered) (k .within) (y ∙ filled f src part (end - first) room enough)
-      ∙ sym (ap (λ (x : RowAnswer). bytesAfter x f row dst first end) told)
+      ∙ put-span p dst ys first end ordered y
+      ∙ sym (ap (λ (x : RowAnswer). pixelsAfter x p dst first end) told)
+
+-- and from the rest of a row
+pub converted-after : (f : Pixel → Pixel) (row dst : List ℕ) (first end : ℕ) {a : RowAnswer} (ys : List ℕ) (to : ℕ) → a ≡ Converted
+    → Accepted row (length dst) first end → to ≡ 6 * end
+    → ys ≡ convertedInto f (take (length row - 6 * first) (drop (6 * first) row)) (take (to - 6 * first) (drop (6 * first) dst))
+    → take (6 * first) dst ++ (ys ++ drop (to - 6 * first) (drop (6 * first) dst)) ≡ bytesAfter a f row dst first end
+converted-after f row dst first end ys to told k at-end y =
+    let src = take (length row - 6 * first) (drop (6 * first) row) in
+    let part = take (to - 6 * first) (drop (6 * first) dst) in
+    let room : length part ≡ 6 * (end - first) = simp (length-take, length-drop) (omega (arith, k .same, k .within)) in
+    let enough : 6 * (end - first) ≤ length src = simp (length-take, length-drop) (omega (arith, k .within)) in
+    pixels-after (converted f row) dst first end ys to told (k .ordered) at-end
+    (y ∙ filled (converted f src) part (length src) (end - first) room enough
+    ∙ span-of-part f row first (end - first) (6 * first) (length row - 6 * first) refl (omega (arith, k .within)))
 
 -- ---- the number that a host is given of an answer that is another's, and fits
 pub host-number-is : {a b : RowAnswer} {r : ℕ} → r ≡ hostNumber a % 2 ^ 64 → a ≡ b → hostNumber b ≤ 6291456 → r ≡ hostNumber b

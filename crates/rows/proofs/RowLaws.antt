@@ -1,5 +1,5 @@
--- Laws of rows, for any conversion of a pixel: samples, pixels and spans of a part of a row are those of the row, and what is put in its place joins what
--- stands before it.
+-- Laws of rows, for whatever gives a span's pixels: samples, pixels and spans of a part of a row are those of the row, and what is put in its place joins
+-- what stands before it.
 use mathlib.Core.Path.{_≡_, refl, sym, _∙_, ap, ap₂}
 use mathlib.Core.List.{List, [], _∷_, _++_, append-nil, append-assoc}
 use Prim.Native.Nat.{ℕ, zero, suc, _+_, _*_, _-_, _/_, _%_, _≤_, _<_}
@@ -11,7 +11,7 @@ use lib.Seq.{getD-drop, getD-take, getD-append-add}
 use Rattle.laws.proofs.PartLaws.{part-back, part-next}
 use Rattle.quantity.specs.Component.{Component, red, green, blue, Pixel}
 use Rattle.big_endian.specs.BigEndian.{numberAt}
-use Rattle.rows.specs.Row.{sampleAt, pixelAt, pixelBytes, spanBytes, withSpan}
+use Rattle.rows.specs.Row.{sampleAt, pixelAt, pixelBytes, pixelsBytes, withPixels, converted, spanBytes}
 
 -- ---- parts of a row: b bytes from its start, k bytes long
 sample-of-rest : (row : List ℕ) (b i m : ℕ) → b + 2 * i ≡ 2 * m → sampleAt (drop b row) i ≡ sampleAt row m
@@ -64,54 +64,60 @@ unfolding pixelBytes
 pixel-stored p dst {r} {r′} {g} {g′} {b} {b′} six e =
     six-stores dst r r′ g g′ b b′ six ∙ rw (e .0, e .1, e .2, e .3, e .4, e .5)
 
-module _ (f : Pixel → Pixel) where
-  pub length-span : (row : List ℕ) (j n : ℕ) → length (spanBytes f row j n) ≡ 6 * n
-  unfolding spanBytes
-  length-span row j zero = refl
-  length-span row j (suc n) =
-      let l = length-pixel (f (pixelAt row (j + n))) in
-      length-append (spanBytes f row j n) (pixelBytes (f (pixelAt row (j + n)))) ∙ omega (arith, length-span row j n)
+-- ---- pixels that p gives by their numbers
+module _ (p : ℕ → Pixel) where
+  pub length-pixels : (j n : ℕ) → length (pixelsBytes p j n) ≡ 6 * n
+  unfolding pixelsBytes
+  length-pixels j zero = refl
+  length-pixels j (suc n) =
+      let l = length-pixel (p (j + n)) in
+      length-append (pixelsBytes p j n) (pixelBytes (p (j + n))) ∙ omega (arith, length-pixels j n)
 
-  -- a span of a part of a row
-  pub span-of-part : (row : List ℕ) (j n b k : ℕ) → b ≡ 6 * j → 6 * n ≤ k → spanBytes f (take k (drop b row)) 0 n ≡ spanBytes f row j n
-  unfolding spanBytes
-  span-of-part row j zero b k e h = refl
-  span-of-part row j (suc n) b k e h =
-      let here = pixel-of-part row b k (0 + n) (j + n) (omega arith) (omega arith) in
-      ap₂ (λ (x : List ℕ) (p : Pixel). x ++ pixelBytes (f p)) (span-of-part row j n b k e (omega arith)) here
+  -- the same pixels under other numbers
+  pub pixels-same : (q : ℕ → Pixel) (j n : ℕ) → ((k : ℕ) → k < n → p k ≡ q (j + k)) → pixelsBytes p 0 n ≡ pixelsBytes q j n
+  unfolding pixelsBytes
+  pixels-same q j zero e = refl
+  pixels-same q j (suc n) e =
+      let here : p (0 + n) ≡ q (j + n) = ap p (zero-add n) ∙ e n (omega arith) in
+      ap₂ (λ (x : List ℕ) (o : Pixel). x ++ pixelBytes o) (pixels-same q j n (λ k h. e k (omega arith))) here
 
   -- m pixels more
-  pub span-further : (row : List ℕ) (n m : ℕ) → spanBytes f row 0 (n + m) ≡ spanBytes f row 0 n ++ spanBytes f row n m
-  unfolding spanBytes
-  span-further row n zero = ap (spanBytes f row 0) (add-zero n) ∙ sym (append-nil (spanBytes f row 0 n))
-  span-further row n (suc m) =
-      let here : pixelAt row (0 + (n + m)) ≡ pixelAt row (n + m) = ap (pixelAt row) (zero-add (n + m)) in
-      ap (spanBytes f row 0) (add-suc n m)
-      ∙ ap₂ (λ (x : List ℕ) (p : Pixel). x ++ pixelBytes (f p)) (span-further row n m) here
-      ∙ append-assoc (spanBytes f row 0 n) (spanBytes f row n m) (pixelBytes (f (pixelAt row (n + m))))
+  pub pixels-further : (n m : ℕ) → pixelsBytes p 0 (n + m) ≡ pixelsBytes p 0 n ++ pixelsBytes p n m
+  unfolding pixelsBytes
+  pixels-further n zero = ap (pixelsBytes p 0) (add-zero n) ∙ sym (append-nil (pixelsBytes p 0 n))
+  pixels-further n (suc m) =
+      let here : p (0 + (n + m)) ≡ p (n + m) = ap p (zero-add (n + m)) in
+      ap (pixelsBytes p 0) (add-suc n m)
+      ∙ ap₂ (λ (x : List ℕ) (o : Pixel). x ++ pixelBytes o) (pixels-further n m) here
+      ∙ append-assoc (pixelsBytes p 0 n) (pixelsBytes p n m) (pixelBytes (p (n + m)))
 
-  -- a span from the first pixel on, one that fills its destination, and one of no pixel
-  pub first-pixels : (row d : List ℕ) (n : ℕ) → withSpan f row d 0 n ≡ spanBytes f row 0 n ++ drop (6 * n) d
-  first-pixels row d n = let e : n - 0 ≡ n = omega arith in ap (λ (k : ℕ). spanBytes f row 0 k ++ drop (6 * n) d) e
+  -- those from the first on, those that fill a destination, and none
+  pub first-pixels : (d : List ℕ) (n : ℕ) → withPixels p d 0 n ≡ pixelsBytes p 0 n ++ drop (6 * n) d
+  first-pixels d n = let e : n - 0 ≡ n = omega arith in ap (λ (k : ℕ). pixelsBytes p 0 k ++ drop (6 * n) d) e
 
-  pub all-pixels : (row d : List ℕ) (n : ℕ) → length d ≡ 6 * n → withSpan f row d 0 n ≡ spanBytes f row 0 n
-  all-pixels row d n l =
-      first-pixels row d n
-      ∙ ap (λ (rest : List ℕ). spanBytes f row 0 n ++ rest) (drop-of-length-le d {i = 6 * n} (omega arith))
-      ∙ append-nil (spanBytes f row 0 n)
+  pub all-pixels : (d : List ℕ) (n : ℕ) → length d ≡ 6 * n → withPixels p d 0 n ≡ pixelsBytes p 0 n
+  all-pixels d n l =
+      first-pixels d n
+      ∙ ap (λ (rest : List ℕ). pixelsBytes p 0 n ++ rest) (drop-of-length-le d {i = 6 * n} (omega arith))
+      ∙ append-nil (pixelsBytes p 0 n)
 
-  pub no-pixels : (row d : List ℕ) (n : ℕ) → n ≡ 0 → d ≡ withSpan f row d 0 n
-  unfolding spanBytes
-  no-pixels row d n e = sym (ap (withSpan f row d 0) e)
+  pub no-pixels : (d : List ℕ) (n : ℕ) → n ≡ 0 → d ≡ withPixels p d 0 n
+  unfolding pixelsBytes
+  no-pixels d n e = sym (ap (withPixels p d 0) e)
 
-  -- a span converted from the rest of a row and put in its place
-  pub put-span : (row d ys : List ℕ) (first end : ℕ) → first ≤ end → 6 * end ≤ length row
-      → ys ≡ spanBytes f (take (length row - 6 * first) (drop (6 * first) row)) 0 (end - first)
-      → take (6 * first) d ++ (ys ++ drop (6 * end - 6 * first) (drop (6 * first) d)) ≡ withSpan f row d first end
-  put-span row d ys first end le within e =
-      let y : ys ≡ spanBytes f row first (end - first) = e ∙ span-of-part row first (end - first) (6 * first) (length row - 6 * first) refl (omega arith) in
+  -- a span put in its place
+  pub put-span : (d ys : List ℕ) (first end : ℕ) → first ≤ end → ys ≡ pixelsBytes p first (end - first)
+      → take (6 * first) d ++ (ys ++ drop (6 * end - 6 * first) (drop (6 * first) d)) ≡ withPixels p d first end
+  put-span d ys first end le y =
       ap (λ (x : List ℕ). take (6 * first) d ++ (x ++ drop (6 * end - 6 * first) (drop (6 * first) d))) y
-      ∙ part-back d (spanBytes f row first (end - first)) (6 * first) (6 * end) (omega arith)
+      ∙ part-back d (pixelsBytes p first (end - first)) (6 * first) (6 * end) (omega arith)
+
+-- a span of a part of a row
+pub span-of-part : (f : Pixel → Pixel) (row : List ℕ) (j n b k : ℕ) → b ≡ 6 * j → 6 * n ≤ k
+    → spanBytes f (take k (drop b row)) 0 n ≡ spanBytes f row j n
+span-of-part f row j n b k e h =
+    pixels-same (converted f (take k (drop b row))) (converted f row) j n
+    (λ i l. ap f (pixel-of-part row b k i (j + i) (omega arith) (omega arith)))
 
 -- n pixels put in their place after the j before them
 pub put-pixels : (d d₀ front ys : List ℕ) (j n : ℕ) → d ≡ front ++ drop (6 * j) d₀ → length front ≡ 6 * j
@@ -151,7 +157,7 @@ pixel-sample p blue = omega arith
 
 -- the pixels of a converted span are the converted pixels
 pub pixel-of-span : (f : Pixel → Pixel) (row : List ℕ) (n j : ℕ) → j < n → (i : Component) → pixelAt (spanBytes f row 0 n) j i ≡ f (pixelAt row j) i
-unfolding spanBytes
+unfolding pixelsBytes
 pixel-of-span f row zero j h i = absurd (omega arith)
 pixel-of-span f row (suc n) j h i = go (decLt j n) (pixel-of-span f row n j)
   where
@@ -162,8 +168,8 @@ pixel-of-span f row (suc n) j h i = go (decLt j n) (pixel-of-span f row n j)
     last = pixelBytes (f (pixelAt row (0 + n)))
 
     go : Dec (j < n) → (j < n → (k : Component) → pixelAt front j k ≡ f (pixelAt row j) k) → pixelAt (front ++ last) j i ≡ f (pixelAt row j) i
-    go (yes l) before = pixel-before front last n j (length-span f row 0 n) l i ∙ before l i
+    go (yes l) before = pixel-before front last n j (length-pixels (converted f row) 0 n) l i ∙ before l i
     go (no l) before =
         let e : j ≡ n = omega arith in
         let g : 0 + n ≡ j = omega arith in
-        pixel-after front last n j (length-span f row 0 n) e i ∙ pixel-sample (f (pixelAt row (0 + n))) i ∙ ap (λ (k : ℕ). f (pixelAt row k) i) g
+        pixel-after front last n j (length-pixels (converted f row) 0 n) e i ∙ pixel-sample (f (pixelAt row (0 + n))) i ∙ ap (λ (k : ℕ). f (pixelAt row k) i) g

@@ -8,16 +8,20 @@ use lib.ListN.{length}
 use Rattle.quantity.specs.Component.{Pixel}
 use Rattle.rows.specs.declared.RowAnswer.{RowAnswer}
 use Rattle.rows.specs.declared.RowAnswer.the-variants.{Converted, Refused}
-use Rattle.rows.specs.Row.{sampleAt, withSpan}
+use Rattle.rows.specs.Row.{sampleAt, withPixels, converted}
 
 -- the test of a sample by a range: below its least code or above its most
 unfoldable pub outside : ℕ → ℕ → ℕ → Bool
 outside least most d = ltb d least || ltb most d
 
--- the first of the n samples from i on that a test refuses; where none is, the sample after them
-unfoldable pub firstRefused : (ℕ → Bool) → List ℕ → ℕ → ℕ → ℕ
-firstRefused refused row i zero = i
-firstRefused refused row i (suc n) = cond (refused (sampleAt row i)) i (firstRefused refused row (i + 1) n)
+-- the first of the n places from i on that a test refuses; where none is, the place after them
+unfoldable pub firstOf : (ℕ → Bool) → ℕ → ℕ → ℕ
+firstOf refused i zero = i
+firstOf refused i (suc n) = cond (refused i) i (firstOf refused (i + 1) n)
+
+-- the first of the n samples of a row from i on
+abbrev pub firstRefused : (ℕ → Bool) → List ℕ → ℕ → ℕ → ℕ
+firstRefused refused row = firstOf (λ i. refused (sampleAt row i))
 
 -- refusal 6: a row's bytes that are no multiple of 6, or more than 8,192 pixels have
 unfoldable pub lengthRefused : ℕ → Bool
@@ -40,10 +44,14 @@ spanAnswer refused row bytes first end =
     (cond (spanRefused (length row / 6) first end) (Refused 8 0)
     (cond (ltb i (3 * end)) (Refused 9 i) Converted)))
 
--- what a destination holds after the answer: the converted span in its places, or all as it was
+-- what a destination holds after the answer: the pixels of the span in their places, p giving each by its number, or all as it was
+abbrev pub pixelsAfter : RowAnswer → (ℕ → Pixel) → List ℕ → ℕ → ℕ → List ℕ
+pixelsAfter Converted p dst first end = withPixels p dst first end
+pixelsAfter (Refused number place) p dst first end = dst
+
+-- and these are a row's, converted by f
 abbrev pub bytesAfter : RowAnswer → (Pixel → Pixel) → List ℕ → List ℕ → ℕ → ℕ → List ℕ
-bytesAfter Converted f row dst first end = withSpan f row dst first end
-bytesAfter (Refused number place) f row dst first end = dst
+bytesAfter answer f row = pixelsAfter answer (converted f row)
 
 -- the one number that a host in C gets: 0, or the refusal plus 256 times its place
 abbrev pub hostNumber : RowAnswer → ℕ

@@ -19,7 +19,7 @@ use Rattle.hlg.specs.Root.{IsRoot}
 use Rattle.hlg.proofs.CodeLaws.{code-from, code-to, code-black}
 use Rattle.pixel.specs.Conversion.{brightestLight, mapped, code}
 use Rattle.pixel.proofs.PixelLaws.{mapped-dark, mapped-at-most}
-use Rattle.rows.specs.Row.{pixelAt, pixelBytes, spanBytes}
+use Rattle.rows.specs.Row.{pixelAt, pixelBytes, pixelsBytes, spanBytes}
 use Rattle.ycbcr.specs.declared.SignalFormat.{SignalFormat}
 use Rattle.ycbcr.specs.Delivery.{inFormat, delivered}
 use Rattle.ycbcr.proofs.DeliveryLaws.{format-at-most}
@@ -116,7 +116,7 @@ module _ (format : SignalFormat) where
 
   pub block-is-span : (source : Source) (row words : List ℕ) (n : ℕ) → MappedTo source row words n
       → blockBytes format words n ≡ spanBytes (delivered format source) row 0 n
-  unfolding MappedTo blockBytes spanBytes
+  unfolding MappedTo blockBytes pixelsBytes
   block-is-span source row words zero m = refl
   block-is-span source row words (suc n) m =
       let here = samples-of-pixel source (wordsAt words n) (pixelAt row n) (m n (omega arith)) in

@@ -23,7 +23,7 @@ tested c = accepted hlgRefused _ _ _ _ (converted c)
 returns : tie.Need-returns
 returns c =
     let e = c .before .before .test-span .ensures in
-    (e, refused-after pqCodes _ _ _ _ (sym e ∙ c .enum-told .given .1))
+    (e, refused-after _ _ _ _ (sym e ∙ c .enum-told .given .1))
 
 returns-2 : tie.Need-returns-2
 returns-2 c =

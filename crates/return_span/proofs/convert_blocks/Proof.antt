@@ -7,7 +7,7 @@ use native.Mathlib.Omega.{arith}
 use lib.ListN.{length, drop, length-take, length-drop}
 use borrow.Rule.Slice.PartMut.{same-len-mid}
 use Rattle.return_pixel.specs.Conversion.{pqCodes}
-use Rattle.rows.specs.Row.{spanBytes}
+use Rattle.rows.specs.Row.{pixelsBytes, spanBytes}
 use Rattle.rows.proofs.SpanLaws.{block-put}
 use Rattle.return_span.proofs.convert_blocks.Statement.{statement}
 use Rattle.return_span.proofs.convert_blocks.Tie as tie
@@ -21,7 +21,7 @@ abbrev μ-loop : tie.MeasureT-loop
 μ-loop scene thresholds hints src dst₀ pixels red₀ green₀ blue₀ low₀ high₀ j₀ dst red green blue low high j = pixels - j
 
 loop-holds : tie.Need-loop-holds Inv-loop μ-loop
-unfolding spanBytes
+unfolding pixelsBytes
 loop-holds c = (omega arith, refl, refl, refl, refl, refl, refl, refl)
 
 root-pixels-requires : tie.Need-root-pixels-requires Inv-loop μ-loop

@@ -30,7 +30,7 @@ by-sample c =
     let two = 2 * loop .i + 2 - 2 * loop .i in
     let sample = c .before .sample-at .ensures .0 ∙ sample-of-part (a .row .now) (2 * loop .i) two 0 (loop .i) (omega arith) (omega arith) in
     loop .inv
-    ∙ refused-here (outside (a .least) (a .most)) (a .row .now) (loop .i) last (omega arith)
+    ∙ refused-here _ (loop .i) last (omega arith)
     ∙ simp (sym sample, sym (c .is-outside .ensures))
 
 returns : tie.Need-returns Inv-loop μ-loop
@@ -42,7 +42,7 @@ loop-again c = by-sample (c .before) ∙ simp (c .if1 .left)
 returns-2 : tie.Need-returns-2 Inv-loop μ-loop
 returns-2 c =
     let last = c .before .before .fewer in
-    sym (rw (sym (last .ensures)) (c .before .loop .inv ∙ refused-none _ _ (c .before .loop .i) (last .result - c .before .loop .i) (omega arith)))
+    sym (rw (sym (last .ensures)) (c .before .loop .inv ∙ refused-none _ (c .before .loop .i) (last .result - c .before .loop .i) (omega arith)))
 
 pub first-refused-spec : {M : Type 1} → statement M
 first-refused-spec =

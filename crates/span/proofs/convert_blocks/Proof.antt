@@ -6,7 +6,7 @@ use Prim.Native.Nat.{ℕ, _+_, _*_, _-_, _≤_}
 use native.Mathlib.Omega.{arith}
 use lib.ListN.{length, drop, length-take, length-drop}
 use borrow.Rule.Slice.PartMut.{same-len-mid}
-use Rattle.rows.specs.Row.{spanBytes}
+use Rattle.rows.specs.Row.{pixelsBytes, spanBytes}
 use Rattle.ycbcr.specs.Delivery.{delivered}
 use Rattle.rows.proofs.SpanLaws.{block-put}
 use Rattle.span.proofs.convert_blocks.Statement.{statement}
@@ -20,7 +20,7 @@ abbrev μ-loop : tie.MeasureT-loop
 μ-loop lights steps hints w source format src dst₀ pixels j₀ dst j = pixels - j
 
 loop-holds : tie.Need-loop-holds Inv-loop μ-loop
-unfolding spanBytes
+unfolding pixelsBytes
 loop-holds c = (omega arith, refl, refl)
 
 convert-block-requires : tie.Need-convert-block-requires Inv-loop μ-loop

@@ -23,14 +23,16 @@ returns c =
     let a = c .before .before .before .before .before .args in
     from (a .format) (a .row .now) (length (a .row .now) / 2) (c .before .before .before .least-taken .ensures)
     (c .before .before .most-taken .ensures)
-    (c .first-refused .ensures ∙ whole-search _ (a .row .now))
+    (c .first-refused .ensures
+    ∙ whole-search (outside (c .before .before .before .least-taken .result) (c .before .before .most-taken .result)) (a .row .now))
 
 returns-2 : tie.Need-returns-2
 returns-2 c =
     let a = c .before .before .before .before .before .before .args in
     from (a .format) (a .row .now) (length (a .row .now) / 2) (c .before .before .before .before .least-taken .ensures)
     (c .before .before .before .most-taken .ensures)
-    (c .first-refused2 .ensures ∙ whole-search _ (a .row .now))
+    (c .first-refused2 .ensures
+    ∙ whole-search (outside (c .before .before .before .before .least-taken .result) (c .before .before .before .most-taken .result)) (a .row .now))
 
 returns-3 : tie.Need-returns-3
 returns-3 c =

@@ -8,8 +8,8 @@ use lib.ListN.{length, drop, length-take, length-drop, drop-of-length-le}
 use borrow.Rule.Slice.PartMut.{same-len-mid}
 use Rattle.quantity.specs.Component.{red, green, blue}
 use Rattle.return_pixel.specs.Conversion.{pqCodes}
-use Rattle.rows.specs.Row.{pixelAt, pixelBytes, spanBytes}
-use Rattle.rows.proofs.RowLaws.{length-span, sample-of-part, put-pixels}
+use Rattle.rows.specs.Row.{pixelAt, pixelBytes, pixelsBytes, converted, spanBytes}
+use Rattle.rows.proofs.RowLaws.{length-pixels, sample-of-part, put-pixels}
 use Rattle.return_span.specs.Codes.{HasCodes}
 use Rattle.return_span.proofs.BlockLaws.{rooted-at}
 use Rattle.return_span.proofs.CodesLaws.{codes-fit, codes-bytes, span-more}
@@ -25,7 +25,7 @@ abbrev μ-loop : tie.MeasureT-loop
 μ-loop thresholds hints reds greens blues lows highs src dst₀ pixels last₀ j₀ dst last j = pixels - j
 
 loop-holds : tie.Need-loop-holds Inv-loop μ-loop
-unfolding spanBytes
+unfolding pixelsBytes
 loop-holds c = (omega arith, refl, refl, c .coded-black .ensures)
 
 code-next-requires : tie.Need-code-next-requires Inv-loop μ-loop
@@ -64,7 +64,7 @@ loop-again c =
     let b = n .2 ∙ sample-of-part row (6 * j) part 2 (3 * j + 2) (omega arith) (omega arith) in
     let y : ys ≡ pixelBytes (pqCodes (pixelAt row j)) = c .before .before .write-codes .ensures ∙ codes-bytes (pixelAt row j) r g b (n .3) in
     let put =
-    put-pixels (loop .dst) (a .dst .now) front ys j 1 (loop .inv .2) (length-span pqCodes row 0 j)
+    put-pixels (loop .dst) (a .dst .now) front ys j 1 (loop .inv .2) (length-pixels (converted pqCodes row) 0 j)
     ∙ ap (λ (l : List ℕ). (front ++ l) ++ drop (6 * (j + 1)) (a .dst .now)) y
     ∙ sym (ap (λ (l : List ℕ). l ++ drop (6 * (j + 1)) (a .dst .now)) (span-more pqCodes row j)) in
     let same = same-len-mid (6 * j) part (loop .dst) ys (c .before .before .write-codes .kept .1 .0) in
