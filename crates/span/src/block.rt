@@ -48,10 +48,25 @@ pub(crate) fn convert_block(
     ensures { λ _. ⌜ now (dst .exit) ≡ spanBytes (delivered format source) (now (src .entry)) 0 pixels ⌝ }
 {
     let mut mapped = [0u64; 96];
-    let mut roots = [0u64; 32];
     map_pixels(lights, hints, w, source, src, &mut mapped, pixels);
-    find_roots(hints, &mapped, &mut roots, pixels);
-    code_pixels(steps, hints, format, &mapped, &roots, dst, pixels);
+    code_block(steps, hints, format, &mapped, dst, pixels);
+}
+
+// The passes after the first: the bytes of what is delivered of mapped pixels.
+pub(crate) fn code_block(
+    steps: &[u64; 955],
+    hints: &[u64; 1361],
+    format: SignalFormat,
+    words: &[u64; 96],
+    dst: &mut [u8],
+    pixels: usize,
+)
+    requires { ⌜ (now steps ≡ stepTable) × (pixels ≤ 32) × Within (now words) pixels × (length (now dst) ≡ 6 * pixels) ⌝ }
+    ensures { λ _. ⌜ now (dst .exit) ≡ blockBytes format (now (words .entry)) pixels ⌝ }
+{
+    let mut roots = [0u64; 32];
+    find_roots(hints, words, &mut roots, pixels);
+    code_pixels(steps, hints, format, words, &roots, dst, pixels);
 }
 
 // A pixel's samples and its mapped components.
