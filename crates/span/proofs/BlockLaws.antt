@@ -23,7 +23,19 @@ use Rattle.rows.specs.Row.{pixelAt, pixelBytes, pixelsBytes, spanBytes}
 use Rattle.ycbcr.specs.declared.SignalFormat.{SignalFormat}
 use Rattle.ycbcr.specs.Delivery.{inFormat, delivered}
 use Rattle.ycbcr.proofs.DeliveryLaws.{format-at-most}
-use Rattle.span.specs.Block.{HasMapped, wordsAt, storedAt, luminanceAt, MappedTo, Within, RootsTo, samplesOf, HasSamples, blockBytes}
+use Rattle.span.specs.Block.{
+  HasMapped,
+  wordsAt,
+  storedAt,
+  luminanceAt,
+  MappedTo,
+  mappedRow,
+  Within,
+  RootsTo,
+  samplesOf,
+  HasSamples,
+  blockBytes,
+}
 
 -- black is mapped to no light
 no-light : (f : SampleFormat) → brightestLight f (pixel (black f) (black f) (black f)) ≡ 0
@@ -31,7 +43,7 @@ unfolding brightestLight
 no-light f = omega (arith, black-light f (black f) (omega arith))
 
 pub black-mapped : (source : Source) {r g b x y z : ℕ} → let f = source .format in
-    r ≡ black f → g ≡ black f → b ≡ black f → x ≡ 0 → y ≡ 0 → z ≡ 0 → HasMapped source r g b x y z
+    r ≡ black f → g ≡ black f → b ≡ black f → x ≡ 0 → y ≡ 0 → z ≡ 0 → HasMapped (mapped source (pixel r g b)) x y z
 black-mapped source er eg eb ex ey ez =
     let code = black (source .format) in
     let p = pixel code code code in
@@ -74,24 +86,26 @@ module _ (l : List ℕ) (j x y z : ℕ) where
   words-here h green = stored-second l (3 * j) x y z (omega arith)
   words-here h blue = stored-third l (3 * j) x y z h
 
--- no pixel mapped, and one more
-pub mapped-none : (source : Source) (row words : List ℕ) → MappedTo source row words 0
-unfolding MappedTo
-mapped-none source row words = below-none _
+module _ (p : ℕ → Pixel) (words : List ℕ) where
+  -- no pixel mapped, and one more
+  pub mapped-none : MappedTo p words 0
+  unfolding MappedTo
+  mapped-none = below-none _
 
-pub mapped-more : (source : Source) (row words : List ℕ) (j : ℕ) {r g b x y z : ℕ}
-    → MappedTo source row words j → pixel r g b ≡ pixelAt row j → HasMapped source r g b x y z
-    → 3 * j + 2 < length words → MappedTo source row (storedAt words j x y z) (j + 1)
-unfolding MappedTo
-mapped-more source row words j {r} {g} {b} {x} {y} {z} before p m room =
-    let here : (i : Component) → pixel x y z i ≡ mapped source (pixel r g b) i = elim [ red ↦ m .red | green ↦ m .green | blue ↦ m .blue ] in
-    below-more _ j (λ k h i. words-before words j x y z k h i ∙ before k h i)
-    (λ i. words-here words j x y z room i ∙ here i ∙ ap (λ (q : Pixel). mapped source q i) p)
+  pub mapped-more : (j : ℕ) {x y z : ℕ} → MappedTo p words j → HasMapped (p j) x y z → 3 * j + 2 < length words → MappedTo p (storedAt words j x y z) (j + 1)
+  unfolding MappedTo
+  mapped-more j {x} {y} {z} before m room =
+      let here : (i : Component) → pixel x y z i ≡ p j i = elim [ red ↦ m .red | green ↦ m .green | blue ↦ m .blue ] in
+      below-more _ j (λ k h i. words-before words j x y z k h i ∙ before k h i) (λ i. words-here words j x y z room i ∙ here i)
 
--- a mapped component is at most 1,000 cd/m2
-pub within-mapped : (source : Source) (row words : List ℕ) (n : ℕ) → MappedTo source row words n → Within words n
-unfolding MappedTo Within
-within-mapped source row words n m j h i = rw (m j h i) (mapped-at-most source (pixelAt row j) i)
+  -- words of components of at most 1,000 cd/m2
+  pub within-mapped : (n : ℕ) → ((j : ℕ) (i : Component) → p j i ≤ thousand) → MappedTo p words n → Within words n
+  unfolding MappedTo Within
+  within-mapped n most m j h i = rw (m j h i) (most j i)
+
+-- those of a row of codes are
+pub mapped-row-at-most : (source : Source) (row : List ℕ) (j : ℕ) (i : Component) → mappedRow source row j i ≤ thousand
+mapped-row-at-most source row j i = mapped-at-most source (pixelAt row j) i
 
 pub within-at : (words : List ℕ) (n j : ℕ) → Within words n → j < n → (i : Component) → wordsAt words j i ≤ thousand
 unfolding Within
@@ -109,20 +123,20 @@ roots-more words roots j g before here room =
     below-more _ j (λ k h. rw (getD-set-other roots j k g 0 (λ e. omega arith)) (before k h)) (rw (getD-set-same roots j g 0 room) here)
 
 module _ (format : SignalFormat) where
-  -- the samples of the mapped pixels are those of the span, and so are the bytes
-  samples-of-pixel : (source : Source) (p q : Pixel) → ((i : Component) → p i ≡ mapped source q i) → samplesOf format p ≡ delivered format source q
-  unfolding code
-  samples-of-pixel source p q e = ap (samplesOf format) (fun-ext e)
-
-  pub block-is-span : (source : Source) (row words : List ℕ) (n : ℕ) → MappedTo source row words n
-      → blockBytes format words n ≡ spanBytes (delivered format source) row 0 n
+  -- the bytes of the words are those of the mapped pixels' samples
+  pub block-is-pixels : (p : ℕ → Pixel) (words : List ℕ) (n : ℕ) → MappedTo p words n
+      → blockBytes format words n ≡ pixelsBytes (λ j. samplesOf format (p j)) 0 n
   unfolding MappedTo blockBytes pixelsBytes
-  block-is-span source row words zero m = refl
-  block-is-span source row words (suc n) m =
-      let here = samples-of-pixel source (wordsAt words n) (pixelAt row n) (m n (omega arith)) in
-      let at : pixelAt row n ≡ pixelAt row (0 + n) = ap (pixelAt row) (sym (zero-add n)) in
-      ap₂ (λ (l : List ℕ) (p : Pixel). l ++ pixelBytes p) (block-is-span source row words n (λ k h. m k (omega arith)))
-      (here ∙ ap (delivered format source) at)
+  block-is-pixels p words zero m = refl
+  block-is-pixels p words (suc n) m =
+      let here : wordsAt words n ≡ p (0 + n) = fun-ext (m n (omega arith)) ∙ ap p (sym (zero-add n)) in
+      ap₂ (λ (l : List ℕ) (q : Pixel). l ++ pixelBytes (samplesOf format q)) (block-is-pixels p words n (λ k h. m k (omega arith))) here
+
+  -- those of a row of codes are delivered of its pixels
+  pub block-is-row : (source : Source) (row words : List ℕ) (n : ℕ) → MappedTo (mappedRow source row) words n
+      → blockBytes format words n ≡ spanBytes (delivered format source) row 0 n
+  unfolding code
+  block-is-row source row words n m = block-is-pixels (mappedRow source row) words n m
 
   -- the bytes of one pixel more
   pub block-more : (words : List ℕ) (n : ℕ) → blockBytes format words (n + 1) ≡ blockBytes format words n ++ pixelBytes (samplesOf format (wordsAt words n))

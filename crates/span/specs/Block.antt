@@ -23,11 +23,11 @@ pub record HasLights (f : SampleFormat) (r g b x y z m : ℕ) : Type 0 where
   pub blue : z ≡ codeLight f b
   pub position : m ≡ brightestPosition f (pixel r g b)
 
--- x, y, z are the mapped components of the pixel r g b
-pub record HasMapped (source : Source) (r g b x y z : ℕ) : Type 0 where
-  pub red : x ≡ mapped source (pixel r g b) red
-  pub green : y ≡ mapped source (pixel r g b) green
-  pub blue : z ≡ mapped source (pixel r g b) blue
+-- x, y, z are the components of a mapped pixel
+pub record HasMapped (p : Pixel) (x y z : ℕ) : Type 0 where
+  pub red : x ≡ p red
+  pub green : y ≡ p green
+  pub blue : z ≡ p blue
 
 -- the three words of pixel j, these stored, and their luminance
 abbrev pub wordsAt : List ℕ → ℕ → Pixel
@@ -39,9 +39,13 @@ storedAt words j x y z = set (set (set words (3 * j) x) (3 * j + 1) y) (3 * j + 
 abbrev pub luminanceAt : List ℕ → ℕ → ℕ
 luminanceAt words j = luminance (wordsAt words j red) (wordsAt words j green) (wordsAt words j blue)
 
--- the first n pixels of a row are mapped to the words
-unfoldable pub MappedTo : Source → List ℕ → List ℕ → ℕ → Type 0
-MappedTo source row words n = (j : ℕ) → j < n → (i : Component) → wordsAt words j i ≡ mapped source (pixelAt row j) i
+-- the words are those of the first n mapped pixels, p giving each
+unfoldable pub MappedTo : (ℕ → Pixel) → List ℕ → ℕ → Type 0
+MappedTo p words n = (j : ℕ) → j < n → (i : Component) → wordsAt words j i ≡ p j i
+
+-- the mapped pixels of a row of codes
+abbrev pub mappedRow : Source → List ℕ → ℕ → Pixel
+mappedRow source row j = mapped source (pixelAt row j)
 
 -- the words of the first n pixels are at most 1,000 cd/m2
 unfoldable pub Within : List ℕ → ℕ → Type 0

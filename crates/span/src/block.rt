@@ -6,15 +6,16 @@ ghost use Prim.Native.Nat.{_*_, _≤_, _<_};
 ghost use lib.ListN.{length};
 ghost use Rattle.quantity.specs.Units.{units, thousand};
 ghost use Rattle.quantity.specs.SampleFormat.{black};
-ghost use Rattle.quantity.specs.Component.{red, green, blue};
+ghost use Rattle.quantity.specs.Component.{red, green, blue, pixel};
 ghost use Rattle.pq.specs.LightTable.{lightTable};
 ghost use Rattle.position.specs.Position.{positionOf};
 ghost use Rattle.hlg_steps.specs.StepTable.{stepTable};
 ghost use Rattle.hlg.specs.Code.{luminance};
 ghost use Rattle.hlg.specs.Root.{IsRoot};
+ghost use Rattle.pixel.specs.Conversion.{mapped};
 ghost use Rattle.rows.specs.Row.{sampleAt, spanBytes};
 ghost use Rattle.ycbcr.specs.Delivery.{delivered};
-ghost use Rattle.span.specs.Block.{HasMapped, wordsAt, storedAt, MappedTo, Within, RootsTo, HasSamples, blockBytes};
+ghost use Rattle.span.specs.Block.{HasMapped, wordsAt, storedAt, MappedTo, mappedRow, Within, RootsTo, HasSamples, blockBytes};
 use crate::Samples;
 use crate::delivery::samples_in;
 use crate::delivery::write_samples;
@@ -106,9 +107,9 @@ fn map_next(
     src: &[u8],
 ) -> MappedPixel
     requires { ⌜ (now lights ≡ lightTable) × (w .0 ≡ positionOf (source .peak * units)) × (length (now src) ≡ 6)
-        × HasMapped source (last .red) (last .green) (last .blue) (last .mapped .red) (last .mapped .green) (last .mapped .blue) ⌝ }
+        × HasMapped (mapped source (pixel (last .red) (last .green) (last .blue))) (last .mapped .red) (last .mapped .green) (last .mapped .blue) ⌝ }
     ensures { λ m. ⌜ (m .red ≡ sampleAt (now (src .entry)) 0) × (m .green ≡ sampleAt (now (src .entry)) 1) × (m .blue ≡ sampleAt (now (src .entry)) 2)
-        × HasMapped source (m .red) (m .green) (m .blue) (m .mapped .red) (m .mapped .green) (m .mapped .blue) ⌝ }
+        × HasMapped (mapped source (pixel (m .red) (m .green) (m .blue))) (m .mapped .red) (m .mapped .green) (m .mapped .blue) ⌝ }
 {
     let r = sample_at(src, 0);
     let g = sample_at(src, 1);
@@ -141,7 +142,7 @@ fn map_pixels(
 )
     requires { ⌜ (now lights ≡ lightTable) × (w .0 ≡ positionOf (source .peak * units)) × (pixels ≤ 32) × (6 * pixels ≤ length (now src))
         × (length (now words) ≡ 96) ⌝ }
-    ensures { λ _. ⌜ MappedTo source (now (src .entry)) (now (words .exit)) pixels ⌝ }
+    ensures { λ _. ⌜ MappedTo (mappedRow source (now (src .entry))) (now (words .exit)) pixels ⌝ }
 {
     let format = source.format;
     let mut last = mapped_black(format);
