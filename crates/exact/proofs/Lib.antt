@@ -2,6 +2,7 @@ pub mod ApartLaws
 pub mod LightLaws
 pub mod SoundLaws
 pub mod FinerLaws
+pub mod BentSignalLaws
 pub mod BentLaws
 pub mod SceneLaws
 pub mod CodeLaws
