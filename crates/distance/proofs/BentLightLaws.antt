@@ -34,38 +34,38 @@ use Rattle.distance.proofs.BentLightTests.{reach, slow-light}
 
 -- ---- a peak above 1,000: t is the position of 1,000 cd/m2, w the peak's position
 module _ (peak : ℕ) (more : 1000 < peak) (most : peak ≤ 10000) where
-  abbrev w : ℕ
+  abbrev pub w : ℕ
   w = positionOf (peak * units)
 
-  far : thousandAt + 98 ≤ w
+  pub far : thousandAt + 98 ≤ w
   far = peak-past peak more
 
-  last : w ≤ 897024
+  pub last : w ≤ 897024
   unfolding lastPosition
   last = position-is (peak * units) .range
 
-  near : w ≤ 3 * thousandAt
+  pub near : w ≤ 3 * thousandAt
   near = omega (arith, last)
 
-  up : thousandAt < w
+  pub up : thousandAt < w
   up = omega (arith, far)
 
   before : pred w ≡ w - 1
   before = omega arith
 
   -- J lies from t to t + 1, H from w - 1 to w + 2
-  ends : Ends peak
+  pub ends : Ends peak
   unfolding Value
   ends =
       endsAround peak thousandAt w far thousand-low thousand-high
       (subst (λ q. ValueAtLeast (whole (peak * units)) (positionSignal q)) before (peak-between peak more most .low)) (peak-between peak more most .high)
 
-  stand : Around ends thousandAt w
+  pub stand : Around ends thousandAt w
   unfolding ends
   stand = are-around peak thousandAt w far _ _ _ _
 
   -- the bent light from X's fraction x, the bent signal v and its light l
-  bent-by : (G : Given) (s : Side) (x v : ℕ) (l : Fraction) → G .X s (positionSignal x) → BentSignal s ends (min x (ends .H s)) v
+  pub bent-by : (G : Given) (s : Side) (x v : ℕ) (l : Fraction) → G .X s (positionSignal x) → BentSignal s ends (min x (ends .H s)) v
       → Light s (positionSignal v) l → BentLight G s peak l
   unfolding BentLight ends
   bent-by G s x v l a b h = inr (more, record { ends = ends; x = x; at = a; v = v; bent = b; light = h })
@@ -130,22 +130,22 @@ pub record Enclosure (p q : ℕ) (G : Given) (peak m : ℕ) : Type 0 where
   pub lights : (s : Side) → BentLight G s peak (inParts (b s))
   pub within : BentWithin entries p q (lightAt m) (bentLight peak (lightAt m) m) b
 
--- the lights at the points around a position enclose that of its signal
-point-low : (q : ℕ) → 256 * firstPointCell + pointsApart ≤ q → q + pointsApart < 256 * (lastPointCell + 1)
-    → Light low (positionSignal q) (inParts (entries .parts * lightAt (pointBefore q)))
+-- the lights at the points around a position, and what lies beyond them, enclose that of its signal
+pub point-low : (q : ℕ) (l : Fraction) → 256 * firstPointCell + pointsApart ≤ q → q + pointsApart < 256 * (lastPointCell + 1)
+    → l ≼ whole (lightAt (pointBefore q)) → Light low (positionSignal q) l
 unfolding Light Value
-point-low q from to = inr (at-most-light (held q from to .below) (record { cross = omega arith }))
+point-low q l from to h = inr (at-most-light (held q from to .below) h)
 
-point-high : (q : ℕ) → 256 * firstPointCell + pointsApart ≤ q → q + pointsApart < 256 * (lastPointCell + 1)
-    → Light high (positionSignal q) (inParts (entries .parts * lightAt (pointAfter q)))
+pub point-high : (q : ℕ) (l : Fraction) → 256 * firstPointCell + pointsApart ≤ q → q + pointsApart < 256 * (lastPointCell + 1)
+    → whole (lightAt (pointAfter q)) ≼ l → Light high (positionSignal q) l
 unfolding Light Value
-point-high q from to = inr (at-least-light (held q from to .above) (record { cross = omega arith }))
+point-high q l from to h = inr (at-least-light (held q from to .above) h)
 
 pub thousand-ge : 1000 ≤ thousand
 unfolding thousand units
 thousand-ge = omega arith
 
-second-entry : lightEntry 1 ≡ leastLight
+pub second-entry : lightEntry 1 ≡ leastLight
 unfolding lightEntry lightTable
 second-entry = refl
 
@@ -211,9 +211,11 @@ module _ {G : Given} {m : ℕ} (P : Placed G m) (peak : ℕ) (most : peak ≤ 10
 
       side : (e : Side) → BentLight G e peak (inParts (b e))
       side low =
-          by-low peak above most m h G (P .x low) _ (P .from) (P .signal low) (point-low (s - positionsOff) (omega (arith, r)) (omega (arith, r)))
+          by-low peak above most m h G (P .x low) _ (P .from) (P .signal low)
+          (point-low (s - positionsOff) _ (omega (arith, r)) (omega (arith, r)) (record { cross = omega arith }))
       side high =
-          by-high peak above most m h G (P .x high) _ (P .to high) (P .signal high) (point-high (s + positionsOff) (omega (arith, r)) (omega (arith, r)))
+          by-high peak above most m h G (P .x high) _ (P .to high) (P .signal high)
+          (point-high (s + positionsOff) _ (omega (arith, r)) (omega (arith, r)) (record { cross = omega arith }))
 
       lower : ratioUnder * end entries low n ≤ ratioOver * (entries .parts * lightAt j)
       lower = omega (arith, is, light-grows s (j + reach) (omega arith), slow-light j (omega (arith, r)) (omega (arith, r)))
