@@ -64,6 +64,20 @@ Fits p q u l d low e = (e ≡ 0) ⊎ ((64 < d) × (q * q ^ 6 * e ^ 6 ≤ p * p ^
 abbrev pub Ending : (p q u l d : ℕ) → (Fraction → Type 0) → Type 0
 Ending p q u l d Inside = (s : Side) → Endpoint s (Fits p q u l d s) Inside
 
+-- what serves in more room serves in less
+pub in-less-room : (p q : ℕ) {u l u' l' d : ℕ} {Inside : Fraction → Type 0} → u ≤ u' → l ≤ l' → Ending p q u' l' d Inside → Ending p q u l d Inside
+in-less-room p q {u} {l} {u'} {l'} {d} h k E high =
+    let x = E high in
+    let fits = le-trans (mul-le-mul-left (q * q ^ 6) (pow-le-pow-left {n = step (d + 1) + u} {m = step (d + 1) + u'} (omega arith) 6)) (x .fits) in
+    record { e = x .e; fits = fits; g = x .g; signal = x .signal; inside = x .inside }
+in-less-room p q {u} {l} {u'} {l'} {d} h k E low =
+    let x = E low in
+    record { e = x .e; fits = go (x .e) (x .fits); g = x .g; signal = x .signal; inside = x .inside }
+  where
+    go : (e : ℕ) → Fits p q u' l' d low e → Fits p q u l d low e
+    go e (inl z) = inl z
+    go e (inr f) = inr (f .0, le-trans (f .1) (mul-le-mul-left (p * p ^ 6) (pow-le-pow-left {n = step d - l'} {m = step d - l} (omega arith) 6)))
+
 module _ {s g s' h y u l p q : ℕ} (R : Room s g s' h y u l) {n : Side → Pixel} {d : Side → ℕ} {r : Pixel} {i : Component} (N : Near s g s' h p q n d r i)
     (enough : y ≤ weighted r) (pp : 0 < p) (pq : 0 < q) where
   full : (v t : ℕ) → t ≤ v * r i → least y v t ≤ v * weighted r
@@ -99,7 +113,7 @@ module _ {s g s' h y u l p q : ℕ} (R : Room s g s' h y u l) {n : Side → Pixe
 unfoldable pub none : Fraction
 none = over 0 1 (zero-lt-suc 0)
 
-none-below : {F : ℕ → Type 0} {Inside : Fraction → Type 0} → F 0 → Inside none → Endpoint low F Inside
+pub none-below : {F : ℕ → Type 0} {Inside : Fraction → Type 0} → F 0 → Inside none → Endpoint low F Inside
 unfolding none sumNum sumDen innerNum innerDen aboveC belowC slope
 none-below f h = record { e = 0; fits = f; g = none; signal = signal-test low (scene 0) (over 0 1 (zero-lt-suc 0)) tt; inside = h }
 

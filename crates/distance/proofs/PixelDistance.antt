@@ -22,7 +22,7 @@ use Rattle.pixel.proofs.PixelLaws.{Mapped}
 use Rattle.distance.proofs.FoundNumbers.{roomAbove, roomBelow}
 use Rattle.distance.proofs.NearLaws.{Near, Rounding, end, around, BentWithin, numerators, denominators, mapped-le, brightest-pos, end-pos, least, near}
 use Rattle.distance.proofs.StepLaws.{Room, room, past-thousand}
-use Rattle.distance.proofs.CodeDistance.{code-below, Ending, ending-scene, none}
+use Rattle.distance.proofs.CodeDistance.{code-below, Endpoint, Ending, ending-scene, none}
 
 pub record Results (G : Given) (peak : ℕ) (n : Side → Pixel) (d : Side → ℕ) : Type 0 where
   pub seen : 0 < G .level
@@ -51,16 +51,24 @@ module _ {G : Given} {peak : ℕ} {n : Side → Pixel} {d : Side → ℕ} (F : R
         ),
       )
 
-  -- a component near its mapped number is enclosed by what a bound asks at its code
+  -- a component is enclosed by an end on each side, a scene light there that its results allow
+  pub by-ends : {i : Component} {Inside : Fraction → Type 0}
+      → ((s : Side) → Endpoint s (λ e. Scaled s e (n s i) (d s) (weighted (n (other s))) (d (other s))) Inside) → Enclosed G peak i Inside
+  by-ends {i = i} E =
+      record { fraction = λ s. E s .g; signals = λ s. signal-of s i (E s .e) (E s .g) (E s .fits) (E s .signal); inside = λ s. E s .inside }
+
+  -- near its mapped number by those that a bound asks at its code
   pub at-code : {s g s' h y u l p q : ℕ} {r : Pixel} {i : Component} {Inside : Fraction → Type 0} → Room s g s' h y u l
       → Near s g s' h p q n d r i → y ≤ weighted r → 0 < p → 0 < q → hlgCode (weighted r) (r i) ≤ 1015
       → Ending p q u l (hlgCode (weighted r) (r i)) Inside → Enclosed G peak i Inside
   at-code {r = r} {i = i} R N enough pp pq top E =
-      record {
-        fraction = λ s. E s .g;
-        signals = λ s. signal-of s i (E s .e) (E s .g) (ending-scene R N enough pp pq (code-is (weighted r) (r i)) top s (E s .e) (E s .fits)) (E s .signal);
-        inside = λ s. E s .inside;
-      }
+      by-ends (λ s. record {
+        e = E s .e;
+        fits = ending-scene R N enough pp pq (code-is (weighted r) (r i)) top s (E s .e) (E s .fits);
+        g = E s .g;
+        signal = E s .signal;
+        inside = E s .inside;
+      })
 
   -- and at most 1,000 cd/m2, by what it asks at every code that this reaches
   pub within : {s g s' h y u l p q : ℕ} {r : Pixel} {i : Component} {Inside : ℕ → Fraction → Type 0} → Room s g s' h y u l
