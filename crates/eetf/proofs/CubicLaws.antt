@@ -37,6 +37,13 @@ tangent-near a b h k l = go (le-dest h)
         let small : z ≤ 4 = omega (arith, w .1) in
         omega (arith, identity-below a b z (w .1), mul-le-mul-right (a + 3 * b) (mul-le-mul small small), mul-le-mul-left b l)
 
+-- from the knee up, where a is d more, q is d more at most, to the rounding
+pub slope : (a b d q u : ℕ) → 2 * (a + d) ≤ 3 * b → 4 * (a * a * a) ≤ 27 * (b * b * q)
+    → 27 * (b * b * u) < 4 * ((a + d) * (a + d) * (a + d)) + 27 * (b * b) → u ≤ q + d
+slope a b d q u h f g =
+    let less : u < q + d + 1 = lt-of-mul-lt-mul-left (27 * (b * b)) {m = u} {n = q + d + 1} (omega (arith, mul-le-mul-left d (mul-le-mul h h))) in
+    omega arith
+
 -- what holds of a, b and q from four half positions below the knee up to the peak
 pub record Place (a b q : ℕ) : Type 0 where
   pub near : 2 * a ≤ 3 * b + 4

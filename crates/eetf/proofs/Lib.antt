@@ -5,3 +5,4 @@ pub mod SignedLaws
 pub mod HermiteLaws
 pub mod CurveLaws
 pub mod MappingLaws
+pub mod BetweenLaws

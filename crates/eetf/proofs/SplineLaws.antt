@@ -1,4 +1,5 @@
--- The spline is a whole part; the curve of positions it makes stays under t and under m, grows with m, and has the inequalities of `Place`.
+-- The spline is a whole part; the curve of positions it makes stays under t and under m, grows with m by no more than m does, and has the
+-- inequalities of `Place`.
 use mathlib.Core.Path.{_≡_, sym, ap, subst, _∙_}
 use mathlib.Core.Bool.{cond}
 use Prim.Native.Nat.{ℕ, min, _+_, _-_, _*_, _^_, _≤_, _<_}
@@ -10,7 +11,7 @@ use borrow.Author.Tests.{lt-ltb, le-ltb}
 use Rattle.laws.proofs.PowerLaws.{powers}
 use Rattle.position.specs.Position.{lightAtIn}
 use Rattle.eetf.specs.Curve.{spline, kneeCurve}
-use Rattle.eetf.proofs.CubicLaws.{Place, place-above, place-below, half-way, below-diagonal}
+use Rattle.eetf.proofs.CubicLaws.{Place, place-above, place-below, half-way, below-diagonal, slope}
 use Rattle.eetf.proofs.FloorLaws.{FloorOfDifference, floor-quotient, floor-falls}
 
 -- ---- the spline from the knee up
@@ -145,6 +146,29 @@ module _ (t w : ℕ) (above : t < w) (near : w ≤ 3 * t) where
       go (bends k f) (stays l d) = omega arith
       go (bends k f) (bends l g) =
           omega (arith, curve-above t w m k, curve-above t w n l, spline-grows t w (min m w) (min n w) above near k (omega arith))
+
+  -- by no more than m does
+  pub curve-slope : (m d : ℕ) → curve t w (m + d) ≤ curve t w m + d
+  curve-slope m d = go (branch m) (branch (m + d))
+    where
+      step : min (m + d) w - min m w ≤ d
+      step = omega arith
+
+      under : (s r c : ℕ) → r ≤ t → t - s ≤ t - r + c → c ≤ d → r ≤ s + d
+      under s r c h less g = omega arith
+
+      go : Branch t w m → Branch t w (m + d) → curve t w (m + d) ≤ curve t w m + d
+      go (stays k e) y = omega (arith, curve-le-self (m + d))
+      go (bends k f) (stays l e) = absurd (omega arith)
+      go (bends k f) (bends l g) =
+          let a = w - min (m + d) w in
+          let c = min (m + d) w - min m w in
+          let whole : w - min m w ≡ a + c = omega arith in
+          let q = t - curve t w m in
+          let knee : 2 * (w - min m w) ≤ 3 * (w - t) = omega arith in
+          let high = subst (λ u. 27 * ((w - t) * (w - t) * q) < 4 * (u * u * u) + 27 * ((w - t) * (w - t))) whole (bent m f .high) in
+          let less = slope a (w - t) c (t - curve t w (m + d)) q (subst (λ u. 2 * u ≤ 3 * (w - t)) whole knee) (bent (m + d) g .low) high in
+          under (curve t w m) (curve t w (m + d)) c (curve-le-top (m + d)) less step
 
   -- a position below the knee is not clipped
   pub curve-stays : (m : ℕ) → 2 * min m w + w < 3 * t → curve t w m ≡ m
