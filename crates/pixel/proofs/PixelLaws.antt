@@ -9,12 +9,13 @@ use Rattle.quantity.specs.declared.sample_format.SampleFormat.{SampleFormat}
 use Rattle.quantity.specs.declared.Source.{Source}
 use Rattle.quantity.specs.Component.{Component, Pixel, brightest}
 use Rattle.quantity.proofs.ComponentLaws.{brightest-at, each-le, brightest-of}
-use Rattle.position.specs.Position.{lightAt}
+use Rattle.position.specs.Position.{lightAt, positionOf}
 use Rattle.position.specs.Code.{codePosition, codeLight}
 use Rattle.position.proofs.LightLaws.{light-at-most}
 use Rattle.position.proofs.CodeLaws.{position-range, code-light-at, code-light-grows}
 use Rattle.eetf.specs.Curve.{bentLight, mappedLight}
 use Rattle.eetf.proofs.CurveLaws.{bent-le-thousand}
+use Rattle.eetf.proofs.BetweenLaws.{bent-any-le-thousand}
 use Rattle.eetf.proofs.MappingLaws.{ratio-le}
 use Rattle.hlg.specs.Code.{hlgCode}
 use Rattle.hlg.proofs.CodeLaws.{code-black}
@@ -60,6 +61,11 @@ module _ (peak : ℕ) (x : Pixel) (m : ℕ) where
   light-ratio-kept e h =
       subst (λ M. Mapped M (bentLight peak (lightAt m) m) x (mappedOf peak x m)) e
       (subst (λ n. Mapped (brightest x) n x (mappedOf peak x m)) (bent-of-light e) (ratio-kept (omega (arith, e, h))))
+
+-- at the position of the brightest light none exceeds 1,000 cd/m2
+pub lights-mapped-at-most : (peak : ℕ) (x : Pixel) (i : Component) → mappedOf peak x (positionOf (brightest x)) i ≤ thousand
+unfolding bentOf
+lights-mapped-at-most peak x i = le-trans (mapped-le-bent peak x (positionOf (brightest x)) i) (bent-any-le-thousand peak (brightest x))
 
 -- ---- codes: the brightest light is that of the brightest code
 pub light-of-brightest : (f : SampleFormat) (p : Pixel) → brightestLight f p ≡ codeLight f (brightest p)
