@@ -19,12 +19,13 @@ use Rattle.hlg_steps.proofs.SignalTests.{signal-test}
 use Rattle.hlg_steps.proofs.StepLaws.{step-pos, step-signal-low, step-signal-high, steps-grow}
 use Rattle.hlg.proofs.CancelledLaws.{C, K, C-pos, Reach, Code}
 use Rattle.distance.specs.Demand.{AtMost}
+use Rattle.distance.proofs.FoundNumbers.{roomAbove, roomBelow, ratioUnder, ratioOver}
 use Rattle.distance.proofs.SceneBounds.{Scaled}
 use Rattle.distance.proofs.AdditiveLaws.{add-up, add-lo}
 use Rattle.distance.proofs.RatioLaws.{mult-up, mult-lo}
 use Rattle.distance.proofs.NearLaws.{Near}
-use Rattle.distance.proofs.StepTests.{sixteenths, sixteenth, least, ratio}
-use Rattle.distance.proofs.StepLaws.{Stepped, sixteenth-signal, Room, between-steps}
+use Rattle.distance.proofs.StepTests.{sixteenths, sixteenth, farthest, sixteenths-low, sixteenths-high, least, ratio}
+use Rattle.distance.proofs.StepLaws.{Stepped, sixteenth-signal, farthest-high, farthest-low, Room, between-steps}
 
 -- a step that is not reached is enough
 missed : {t y r : ℕ} → ¬ Reach t y r → C * r ^ 6 ≤ t ^ 6 * K * y
@@ -142,6 +143,11 @@ nine-sixteenths p q u l up down above below fits-up fits-down d from to low = go
           signal = sixteenth-signal low down below d (record { from = omega arith; to = omega arith });
           inside = omega arith;
         }
+
+-- the ratio's own tests among them
+pub by-ratio : (d : ℕ) → 64 ≤ d → d ≤ 1015 → Ending ratioUnder ratioOver roomAbove roomBelow d (AtMost 9 16 d)
+by-ratio =
+    nine-sixteenths ratioUnder ratioOver roomAbove roomBelow (farthest high) (farthest low) sixteenths-high sixteenths-low farthest-high farthest-low
 
 -- one and a half codes either side, where a ratio and the room fit from the next step to the one after it, and from a step to the one before
 pub one-and-a-half : (p q u l d : ℕ) → 64 ≤ d → d ≤ 1015 → Fits p q u l d high (step (d + 2) - 1) → (65 < d → Fits p q u l d low (step (d - 1)))

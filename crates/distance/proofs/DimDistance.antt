@@ -2,7 +2,7 @@
 use mathlib.Core.Path.{_≡_, ap}
 use mathlib.Core.Logic.{_⊎_, inl, inr}
 use Prim.Native.Nat.{ℕ, _+_, _-_, _*_, _^_, _≤_, _<_}
-use native.Mathlib.Nat.{le-refl, le-trans, mul-le-mul-left, mul-le-mul-right, le-of-mul-le-mul-right, lt-of-mul-lt-mul-right}
+use native.Mathlib.Nat.{le-refl, le-trans, mul-le-mul-left, mul-le-mul-right}
 use native.Mathlib.Decide.{decLe}
 use native.Mathlib.Omega.{arith}
 use lib.Dec.{lit<, lit≤}
@@ -12,7 +12,7 @@ use Rattle.hlg_steps.specs.StepTable.{stepTable, step}
 use Rattle.hlg.specs.Code.{hlgCode}
 use Rattle.hlg.proofs.CancelledLaws.{C, K, code-is}
 use Rattle.position.specs.Position.{lightAt}
-use Rattle.pixel.proofs.PixelLaws.{Floor, Mapped}
+use Rattle.pixel.proofs.PixelLaws.{Mapped}
 use Rattle.full_range.proofs.FoundNumbers.{unitsBelow, unitsAbove}
 use Rattle.full_range.proofs.FullRangeTests.{less, more, beside}
 use Rattle.exact.specs.ExactValue.{Given, BentLight}
@@ -20,7 +20,7 @@ use Rattle.distance.specs.Demand.{AtMost, Enclosed}
 use Rattle.distance.proofs.FoundNumbers.{slopeAbove, firstLight, dimLight, dimRatio}
 use Rattle.distance.proofs.StepTests.{slope-above}
 use Rattle.distance.proofs.StepLaws.{Room}
-use Rattle.distance.proofs.NearLaws.{Near, part-le, luminance-ge}
+use Rattle.distance.proofs.NearLaws.{Near, unmapped, part-le, luminance-ge}
 use Rattle.distance.proofs.CodeDistance.{code-below, one-and-a-half}
 use Rattle.distance.proofs.PixelDistance.{at-code}
 use Rattle.distance.proofs.LightLaws.{entries}
@@ -103,13 +103,6 @@ module _ (M u : ℕ) (top : M ≤ dimLight) (under : u ≤ M) (lit : (u ≡ 0) �
           let c : less M ≡ k = omega arith in
           let e : u ≡ l + unitsBelow = omega arith in
           rw (a, b, c) (omega (arith, low-core k l (omega arith) (omega arith), ap (λ t. t * (k + (unitsBelow + unitsAbove))) e))
-
--- a light over itself
-unmapped : (x m r : ℕ) → 0 < m → Floor x m m r → r ≡ x
-unmapped x m r h f =
-    let a : r ≤ x = le-of-mul-le-mul-right {k = m} (f .below) h in
-    let b : x < r + 1 = lt-of-mul-lt-mul-right m (f .above) in
-    omega arith
 
 module _ {G : Given} {x r : Pixel} {m : ℕ} (I : Beside G x m) (M : Mapped (lightAt m) (lightAt m) x r) (dim : lightAt m ≤ dimLight)
     (lights : (i : Component) → (x i ≡ 0) ⊎ (firstLight ≤ x i)) where

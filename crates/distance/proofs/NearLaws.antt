@@ -109,6 +109,13 @@ mapped-le {x} {n} {m} {r} h a f = le-of-mul-le-mul-right {k = m} (omega (arith, 
 pub brightest-ge : {x n m r : ℕ} → 0 < m → x ≡ m → Floor x n m r → n ≤ r
 brightest-ge {x} {n} {m} {r} h e f = let k : n < r + 1 = lt-of-mul-lt-mul-right m (omega (arith, f .above, ap (λ t. t * n) e)) in omega arith
 
+-- over itself a light stays
+pub unmapped : (x m r : ℕ) → 0 < m → Floor x m m r → r ≡ x
+unmapped x m r h f =
+    let a : r ≤ x = le-of-mul-le-mul-right {k = m} (f .below) h in
+    let b : x < r + 1 = lt-of-mul-lt-mul-right m (f .above) in
+    omega arith
+
 -- a component's part of the luminance is 593 ten-thousandths of it or more
 pub part-le : (r : Pixel) (i : Component) → 593 * r i ≤ weighted r
 part-le r red = omega arith

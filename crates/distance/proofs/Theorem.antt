@@ -27,10 +27,8 @@ use Rattle.pixel.proofs.PixelLaws.{Mapped, light-ratio-kept, light-of-brightest
 use Rattle.pixel.proofs.OrderLaws.{ordered, greys}
 use Rattle.exact.specs.ExactValue.{Given, ofCodes}
 use Rattle.distance.specs.Demand.{AtMost, Enclosed, Unbent, Anywhere, Throughout, Voted, Demand}
-use Rattle.distance.proofs.FoundNumbers.{roomAbove, roomBelow, ratioUnder, ratioOver}
-use Rattle.distance.proofs.StepTests.{farthest, sixteenths-low, sixteenths-high}
-use Rattle.distance.proofs.StepLaws.{farthest-high, farthest-low}
-use Rattle.distance.proofs.CodeDistance.{Ending, nine-sixteenths, none}
+use Rattle.distance.proofs.FoundNumbers.{roomAbove, roomBelow}
+use Rattle.distance.proofs.CodeDistance.{Ending, by-ratio, none}
 use Rattle.distance.proofs.PixelDistance.{bounded, wider, black}
 use Rattle.distance.proofs.LightLaws.{entries, same-light, codeIndex, index-range, index-signal, index-some, code-light}
 use Rattle.distance.proofs.FullRangeDistance.{full-range}
@@ -53,9 +51,7 @@ module _ {G : Given} {x : Pixel} {m : ℕ} (I : Indexed G x m) (peak : ℕ) (mos
 
   -- which is 9/16 of a code, bent or not
   near : (i : Component) → Enclosed G peak i (AtMost 9 16 (codeOf peak x m i))
-  near =
-      by-enclosure (enclosure I peak most) (lit< tt) (lit< tt)
-      (nine-sixteenths ratioUnder ratioOver roomAbove roomBelow (farthest high) (farthest low) sixteenths-high sixteenths-low farthest-high farthest-low)
+  near = by-enclosure (enclosure I peak most) (lit< tt) (lit< tt) by-ratio
 
 -- ---- codes of narrow range: the position of each is that of an index
 abbrev sourceOf : ℕ → Depth → Range → Source
