@@ -68,7 +68,13 @@ module _ (peak : ℕ) (more : 1000 < peak) (most : peak ≤ 10000) where
   pub bent-by : (G : Given) (s : Side) (x v : ℕ) (l : Fraction) → G .X s (positionSignal x) → BentSignal s ends (min x (ends .H s)) v
       → Light s (positionSignal v) l → BentLight G s peak l
   unfolding BentLight ends
-  bent-by G s x v l a b h = inr (more, record { ends = ends; x = x; at = a; v = v; bent = b; light = h })
+  bent-by G s x v l a b h = inr (more, inr record { ends = ends; x = x; at = a; v = v; bent = b; light = h })
+
+  -- or, where X's upper fraction x lies surely below the knee, from a brightest light l
+  pub straight-by : (G : Given) (s : Side) (x : ℕ) (l : Fraction) → G .X high (positionSignal x) → 2 * x + 2 + w < 3 * thousandAt
+      → G .Most s l → BentLight G s peak l
+  unfolding BentLight ends
+  straight-by G s x l a b h = inr (more, inl record { ends = ends; x = x; at = a; below = omega arith; light = h })
 
   -- X is at the position m, or between it and the next
   pub by-self : (G : Given) (s : Side) (m x : ℕ) (l : Fraction) → 2 * m + kneeHalves + w ≤ 3 * thousandAt → x ≤ m + 1 → G .X s (positionSignal x)

@@ -1,13 +1,15 @@
--- The bent signal: no lower fraction exceeds an upper one, and an upper one is at least its X, or 1/20.
+-- The bent signal: no lower fraction exceeds an upper one, a lower one is at most its X, and an upper one at least its X, or 1/20.
 use mathlib.Core.Path.{_≡_, ap, _∙_, subst}
 use mathlib.Core.Logic.{_⊎_, inl, inr}
-use Prim.Native.Nat.{ℕ, min, max, _+_, _-_, _*_, _≤_, _<_}
-use native.Mathlib.Nat.{le-refl, lt-of-not-le, mul-le-mul-right, le-of-mul-le-mul-right}
+use Prim.Native.Nat.{ℕ, min, max, _+_, _-_, _*_, _^_, _≤_, _<_}
+use native.Mathlib.Nat.{le-refl, le-dest, lt-of-not-le, mul-pos, mul-le-mul-right, mul-lt-mul-of-pos-right, le-of-mul-le-mul-left, le-of-mul-le-mul-right}
 use native.Mathlib.Decide.{decLe}
 use native.Mathlib.Omega.{arith}
 use Rattle.laws.specs.Fraction.{over, whole}
-use Rattle.laws.specs.Side.{low, high}
+use Rattle.laws.specs.Side.{Side, low, high}
+use Rattle.laws.proofs.PowerLaws.{powers}
 use Rattle.quantity.specs.Units.{units, thousand}
+use Rattle.eetf.proofs.CubicLaws.{below-diagonal}
 use Rattle.exact.specs.ExactValue.{Ends, BentSignal}
 use Rattle.exact.proofs.LightLaws.{value-ordered, values-apart, of-thousand, at-most-two}
 use Rattle.exact.proofs.FinerLaws.{finer, finer-bent}
@@ -22,6 +24,17 @@ smaller-scales x h k = go (decLe x h)
         let m : min x h ≡ h = omega arith in
         let g : h ≤ x = omega arith in
         ap (λ n. n * k) m ∙ omega (arith, mul-le-mul-right k g)
+
+-- the spline stays under its diagonal: a = H − X, b = H − J, v at most J − 4a³ / (27b²)
+under-diagonal : (a b v J : ℕ) → 0 < b → 4 * a ^ 3 + 27 * b ^ 2 * v ≤ 27 * b ^ 2 * J → a + v ≤ J + b
+under-diagonal a b v J p h = go (le-dest (le-of-mul-le-mul-left {m = v} {n = J} {k = b * b} (omega (arith, simp powers at h)) (mul-pos p p)))
+  where
+    go : (k : ℕ) × (v + k ≡ J) → a + v ≤ J + b
+    go w = omega (arith, below-diagonal a b (w .0) p (omega (arith, simp powers at h, ap (λ x. b * b * x) (w .1))), w .1)
+
+-- what is at most an X below the knee by j and h lies below it by J and H too, so that a straight signal u is at least that
+straight-least : (x y u J H j h : ℕ) → 2 * x + h < 3 * j → j ≤ J → H ≤ h → J < H → y ≤ x → (2 * min y H + H < 3 * J → min y H ≤ u) → y ≤ u
+straight-least x y u J H j h below hJ hH up hy straight = omega (arith, straight (omega arith))
 
 -- ---- J and H have places that two sets of fractions enclose, in the product of their units
 module _ {peak : ℕ} where
@@ -51,15 +64,18 @@ module _ {peak : ℕ} where
   apart e f = omega (arith, mul-le-mul-right (f .q) (e .apart), f .pos, mul-le-mul-right (f .q) (own-J e), J-ordered f e)
 
   -- ---- the bent signal
+  finer-smaller : (s : Side) (e : Ends peak) (k : ℕ) (pos : 0 < k) (x v : ℕ) → BentSignal s e (min x (e .H s)) v
+      → BentSignal s (finer e k pos) (min (x * k) (e .H s * k)) (v * k)
+  finer-smaller s e k pos x v b =
+      subst (λ y. BentSignal s (finer e k pos) y (v * k)) (smaller-scales x (e .H s) k) (finer-bent s e k pos (min x (e .H s)) v b)
+
   pub bent-signal-ordered : (e f : Ends peak) (x z v u : ℕ) → x * f .q ≤ z * e .q → BentSignal low e (min x (e .H low)) v
       → BentSignal high f (min z (f .H high)) u → v * f .q ≤ u * e .q
   bent-signal-ordered e f x z v u h a b =
       let J = max (e .J low * f .q) (f .J low * e .q) in
       let H = max (e .H low * f .q) (f .H low * e .q) in
-      let a′ = subst (λ y. BentSignal low (finer e (f .q) (f .pos)) y (v * f .q)) (smaller-scales x (e .H low) (f .q))
-      (finer-bent low e (f .q) (f .pos) (min x (e .H low)) v a) in
-      let b′ = subst (λ y. BentSignal high (finer f (e .q) (e .pos)) y (u * e .q)) (smaller-scales z (f .H high) (e .q))
-      (finer-bent high f (e .q) (e .pos) (min z (f .H high)) u b) in
+      let a′ = finer-smaller low e (f .q) (f .pos) x v a in
+      let b′ = finer-smaller high f (e .q) (e .pos) z u b in
       beside-ordered J H (min (x * f .q) H) (v * f .q) (u * e .q) (apart e f)
       (bent-sound (finer e (f .q) (f .pos)) J H (common e f J H (omega arith) (omega arith)) low (x * f .q) (x * f .q) (v * f .q) (le-refl (x * f .q)) a′)
       (bent-sound (finer f (e .q) (e .pos)) J H (common f e J H (omega arith) (omega arith)) high (z * e .q) (x * f .q) (u * e .q) h b′)
@@ -88,3 +104,23 @@ module _ {peak : ℕ} where
           inr (omega (arith, f .apart, J-least, H-most))
       go (no k) (yes l) = inl (omega (arith, beside .straight (lt-of-not-le k)))
       go (no k) (no l) = inr (omega (arith, beside .straight (lt-of-not-le k), f .apart, J-least))
+
+  -- a lower bent signal is at most its X
+  pub bent-signal-most : (e : Ends peak) (x v : ℕ) → BentSignal low e (min x (e .H low)) v → v ≤ x
+  bent-signal-most e x v (inl a) = omega (arith, a .1)
+  bent-signal-most e x v (inr (inl a)) =
+      let under = under-diagonal (e .H high - min x (e .H low)) (e .H low - e .J high) v (e .J low) (omega (arith, e .apart)) (a .1) in
+      omega (arith, under, own-J e, own-H e, e .apart)
+  bent-signal-most e x v (inr (inr a)) = omega (arith, a .0)
+
+  -- where x lies surely below the knee by ends e, an upper bent signal of z by ends f is at least the smaller of both
+  pub bent-signal-straight : (e f : Ends peak) (x z u y : ℕ) → 2 * x + e .H high < 3 * e .J low → BentSignal high f (min z (f .H high)) u
+      → y ≤ z * e .q → y ≤ x * f .q → y ≤ u * e .q
+  bent-signal-straight e f x z u y below b from-z from-x =
+      let J = max (e .J low * f .q) (f .J low * e .q) in
+      let H = max (e .H low * f .q) (f .H low * e .q) in
+      let own = common e f J H (omega arith) (omega arith) in
+      let side = bent-sound (finer f (e .q) (e .pos)) J H (common f e J H (omega arith) (omega arith)) high (z * e .q) y (u * e .q) from-z
+      (finer-smaller high f (e .q) (e .pos) z u b) in
+      let knee : 2 * (x * f .q) + e .H high * f .q < 3 * (e .J low * f .q) = omega (arith, mul-lt-mul-of-pos-right below (f .pos)) in
+      straight-least (x * f .q) y (u * e .q) J H (e .J low * f .q) (e .H high * f .q) knee (own .J-from) (own .H-to) (apart e f) from-x (side .straight)

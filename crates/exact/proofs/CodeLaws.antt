@@ -13,7 +13,7 @@ use Rattle.quantity.proofs.ComponentLaws.{brightest-at}
 use Rattle.position.specs.Code.{codeSignal}
 use Rattle.position.proofs.CodeLaws.{excursion-most}
 use Rattle.exact.specs.ExactValue.{Light, ofCodes}
-use Rattle.exact.proofs.LightLaws.{light-ordered, light-above-zero}
+use Rattle.exact.proofs.LightLaws.{light-ordered, light-of-less, light-of-more, light-above-zero}
 use Rattle.exact.proofs.BentLaws.{Sound}
 
 module _ (f : SampleFormat) where
@@ -32,6 +32,8 @@ module _ (f : SampleFormat) where
         own = λ {i} a b. light-ordered (codeSignal f (p i)) a b;
         most = light-ordered X;
         signals = λ a b. ≼-trans {q = X} (record { cross = a }) (record { cross = b });
+        under = λ {l} {z} some a b. light-of-more {x = X} {y = z} l some (record { cross = b }) a;
+        above = λ {k} {x} a b. light-of-less {x = x} {y = X} k (record { cross = b }) a;
         lit = λ h. (
           top .0,
           λ l a. code-pos (p (top .0)) (codeSignal f (p (top .0))) l (subst (λ D. 0 < codeSignal f D .num) (sym (top .1)) h) (≼-refl _) a,

@@ -6,4 +6,5 @@ pub mod BentSignalLaws
 pub mod BentLaws
 pub mod SceneLaws
 pub mod CodeLaws
+pub mod LinearLaws
 pub mod ValueLaws

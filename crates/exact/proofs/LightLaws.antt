@@ -12,7 +12,7 @@ use Rattle.laws.proofs.FractionLaws.{≼-refl, zero-≼, ≼-zero, cross-trans,
 use Rattle.quantity.specs.Units.{units, thousand, tenThousand}
 use Rattle.pq.specs.Pq.{ratioNum, ratioDen, ValueAtMost, ValueAtLeast}
 use Rattle.pq.proofs.PqTests.{ratioDen-pos}
-use Rattle.pq.proofs.PqLaws.{signals-ordered, lights-ordered}
+use Rattle.pq.proofs.PqLaws.{at-most-signal, at-least-signal, signals-ordered, lights-ordered}
 use Rattle.exact.specs.ExactValue.{Value, Light}
 use Rattle.exact.proofs.ApartLaws.{Apart, by-sides}
 
@@ -37,6 +37,17 @@ lights-grow h (inr a) (inr b) = lights-ordered h a b
 
 pub light-ordered : (x : Fraction) {l k : Fraction} → Light low x l → Light high x k → l ≼ k
 light-ordered x {l} {k} a b = lights-grow {x = x} {y = x} {l = l} {k = k} (≼-refl x) a b
+
+-- an upper fraction of a light is one of every smaller signal's light, and a lower one above 0 of every larger signal's
+pub light-of-less : {x y : Fraction} (l : Fraction) → x ≼ y → Light high y l → Light high x l
+unfolding Light Value
+light-of-less {x} {y} l h (inl a) = inl (≼-zero {p = x} {q = y} h (a .0), a .1)
+light-of-less l h (inr a) = inr (at-least-signal a h)
+
+pub light-of-more : {x y : Fraction} (l : Fraction) → 0 < l .num → x ≼ y → Light low x l → Light low y l
+unfolding Light Value
+light-of-more l some h (inl a) = absurd (omega (arith, a .1))
+light-of-more l some h (inr a) = inr (at-most-signal a h)
 
 pub value-ordered : (l : Fraction) {x y : Fraction} → Value low l x → Value high l y → x ≼ y
 unfolding Value

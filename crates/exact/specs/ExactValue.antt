@@ -42,6 +42,16 @@ ofCodes f p =
       level = codeSignal f (brightest p) .num;
     }
 
+-- lights v / z are given themselves, before any whole part is taken (request 11); X is the PQ value of the brightest, of which fractions alone are known
+abbrev pub ofLights : (v : Pixel) (z : ℕ) → 0 < z → Given
+ofLights v z pos =
+    record {
+      Own = λ s i l. Bounds s l (over (v i) z pos);
+      Most = λ s l. Bounds s l (over (brightest v) z pos);
+      X = λ s x. Value s (over (brightest v) z pos) x;
+      level = brightest v;
+    }
+
 -- J and H, the PQ signals of 1,000 cd/m2 and of the peak, in q-ths; they serve only when the lower fraction of H is above the upper one of J
 pub record Ends (peak : ℕ) : Type 0 where
   pub q : ℕ
@@ -79,6 +89,15 @@ pub record Bent (G : Given) (s : Side) (peak : ℕ) (l : Fraction) : Type 0 wher
   pub bent : BentSignal s ends (min x (ends .H s)) v
   pub light : Light s (over v (ends .q) (ends .pos)) l
 
+-- or, where X lies surely below the knee, the light of X, which is the brightest light (request 11). Both sides read X's upper fraction: a lower one
+-- may lie below the knee when X does not, and the curve then bends
+pub record Straight (G : Given) (s : Side) (peak : ℕ) (l : Fraction) : Type 0 where
+  pub ends : Ends peak
+  pub x : ℕ
+  pub at : G .X high (over x (ends .q) (ends .pos))
+  pub below : 2 * x + ends .H high < 3 * ends .J low
+  pub light : G .Most s l
+
 -- l, of the brightest light or 1,000 cd/m2, whichever is smaller
 abbrev pub Smaller : Given → Side → Fraction → Type 0
 Smaller G low l = Bounds low l (whole thousand) × G .Most low l
@@ -86,7 +105,7 @@ Smaller G high l = Bounds high l (whole thousand) ⊎ G .Most high l
 
 -- l, of the bent light
 unfoldable pub BentLight : Given → Side → ℕ → Fraction → Type 0
-BentLight G s peak l = ((peak ≤ 1000) × Smaller G s l) ⊎ ((1000 < peak) × Bent G s peak l)
+BentLight G s peak l = ((peak ≤ 1000) × Smaller G s l) ⊎ ((1000 < peak) × (Straight G s peak l ⊎ Bent G s peak l))
 
 -- r, of a component's result: its own light times the bent light over the brightest light, of which a fraction 0 does not serve
 pub record Result (G : Given) (s : Side) (peak : ℕ) (i : Component) (r : Fraction) : Type 0 where
