@@ -1,0 +1,5 @@
+pub mod ValueLaws
+pub mod ProductLaws
+pub mod FiniteLaws
+pub mod RowLaws
+pub mod Examples

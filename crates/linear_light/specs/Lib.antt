@@ -1,0 +1,3 @@
+pub mod LinearLight
+pub mod Conversion
+pub mod Row
