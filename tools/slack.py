@@ -1,5 +1,6 @@
 #!/usr/bin/env python3
-"""The room that the found numbers of demand 3's proof have: FoundNumbers.antt of crates/distance, full_range and bent_lights against the stored tables.
+"""The room that the found numbers of demand 3's proof have: FoundNumbers.antt of crates/distance, full_range, bent_lights and linear_distance against the
+stored tables.
 
     python3 tools/slack.py            each number, the least and the most that would do beside the others, and what they come from
     python3 tools/slack.py --check    the same in silence, unless a number is out of its room
@@ -26,7 +27,7 @@ A, B, C_HLG = Decimal("0.17883277"), Decimal("0.28466892"), Decimal("0.55991073"
 def numbers():
     """The found numbers by name; one is given by another."""
     found = {}
-    for crate in ("distance", "full_range", "bent_lights"):
+    for crate in ("distance", "full_range", "bent_lights", "linear_distance"):
         for name, value in re.findall(r"^(\w+) = (.+)$", (ROOT / "crates" / crate / "proofs/FoundNumbers.antt").read_text(encoding="utf-8"), re.M):
             found[name] = eval(value, {}, found)
     return found
@@ -43,6 +44,9 @@ N = numbers()
 FULL = {name: N["full" + name[0].upper() + name[1:]] for name in (
     "resultAbove", "resultBelow", "luminanceBelow", "luminanceAbove", "slopeAbove", "slopeBelow", "roomAbove", "roomBelow", "ratioUnder", "ratioOver")}
 FULL["leastLuminance"] = N["litLuminance"]
+# those of lights that are given themselves, whose whole parts enclose them
+WHOLE = {**N, "resultAbove": 1, "resultBelow": 0, "luminanceBelow": 0, "luminanceAbove": WEIGHTS, "slopeAbove": N["unitSlope"], "slopeBelow": N["unitSlope"],
+         "leastLuminance": N["litUnitsLuminance"]}
 LIGHTS = table("crates/pq/specs/LightTable.antt")
 STEPS = table("crates/hlg_steps/specs/StepTable.antt")
 
@@ -151,13 +155,23 @@ def part_fits(p, part):
     return (p + 1) ** 7 * part**6 <= p**7 * (part + 1) ** 6
 
 
+def slow_over(p, way, widths, cells):
+    """`slow` of BentLightTests: so many positions take less than the ratio (p + 1) / p, by the cells that they reach."""
+    rises = [high - low for low, high in zip(LIGHTS, LIGHTS[1:])] + [0] * (widths + 1)
+    return all(p * (way * max(rises[k:k + widths + 1]) + 2 * CELL * widths) <= CELL * LIGHTS[k] for k in cells)
+
+
 def slow(cells=None, **other):
-    """`slow` of BentLightTests: the ratio over the way from a bent position to a point, cell by cell."""
+    """The way from a bent position to a point."""
     n = {**N, **other}
-    reach = n["positionsOff"] + n["pointsApart"]
     cells = range(n["firstCell"], n["firstCell"] + n["cells"]) if cells is None else cells
-    rises = [LIGHTS[min(k + 1, len(LIGHTS) - 1)] - LIGHTS[k] for k in range(len(LIGHTS))]
-    return all(n["ratioUnder"] * (reach * max(rises[k], rises[k + 1]) + 2 * CELL) <= CELL * LIGHTS[k] for k in cells)
+    return slow_over(n["ratioUnder"], n["positionsOff"] + n["pointsApart"], 1, cells)
+
+
+def linear_slow(**other):
+    """The way that X's fractions add to it where lights are given themselves."""
+    n = {**N, **other}
+    return slow_over(n["fullRatioUnder"], n["linearReach"], 2, range(n["firstPointCell"], n["lastPointCell"] + 1))
 
 
 def points_hold(k):
@@ -254,11 +268,30 @@ def full_rows():
     up, down = (most(lambda n: between_steps(p, p + 1, FULL, **{name: n}), 0) for name in ("roomAbove", "roomBelow"))
     yield "fullRoomAbove", least(lambda u: add_high(FULL, roomAbove=u), 10**6), up, "units off; ratio"
     yield "fullRoomBelow", least(lambda l: add_low(FULL, roomBelow=l), 10**6), down, "units off; ratio"
-    yield ("fullRatioUnder", least(lambda n: n > 0 and between_steps(n, n + 1, FULL), 10**6), most(lambda n: ratios_fit(n, part), 1),
-           "steps; parts of lights")
+    yield ("fullRatioUnder", least(lambda n: n > 0 and between_steps(n, n + 1, FULL), 10**6),
+           min(most(lambda n: ratios_fit(n, part), 1), most(lambda n: linear_slow(fullRatioUnder=n), 1)), "steps; parts of lights, cells of bent light")
     yield "fullRatioOver", p + 1, p + 1, "one more"
     yield ("dimRatio", least(lambda n: dim_fits(n, N["firstLight"]), 100),
            most(lambda n: all(n**7 * x**6 <= (y - 1) ** 6 for x, y in zip(STEPS, STEPS[1:3])), 0), "ends of dim lights; first steps")
+
+
+# ---- lights that are given themselves
+
+def linear_rows():
+    """Whole parts of lights, fewer of them than serve by their units, and X's fractions a cell off."""
+    slopes = lambda y: slope_above(WHOLE, leastLuminance=y) and slope_below(WHOLE, leastLuminance=y) and add_low(WHOLE, leastLuminance=y)
+    dim = lambda n: C * (n - 1) ** 5 < STEPS[0] ** 6 * K * BLUE and C * n**5 <= N["dimScene"] ** 6 * K * BLUE
+    reach = N["positionsOff"] + N["pointsApart"]
+    yield "litUnits", least(lambda n: slopes(BLUE * n), 10**4), most(dim, 1), "slope; first step, scene light"
+    yield "litUnitsLuminance", least(slopes, 10**6), BLUE * N["litUnits"], "slope; units"
+    yield ("unitSlope", least(lambda v: slope_above(WHOLE, slopeAbove=v), 10**6),
+           min(most(lambda v: add_high(WHOLE, slopeAbove=v), 0), most(lambda v: add_low(WHOLE, slopeBelow=v), 0)), "least luminance; rooms")
+    yield ("dimScene", least(lambda e: C * N["litUnits"] ** 5 <= e**6 * K * BLUE, 10**6), int(scene_light(Decimal(8) / 14016)), "units; 8/16")
+    yield ("leastUnleft", max(CELL * (N["firstPointCell"] + 1) + reach, CELL * N["steepCell"]), (3 * T - 2048 - LAST) // 2 + 1,
+           "points, steep cells; a code below the knee")
+    yield ("steepCell", least(lambda k: all(high - low >= CELL for low, high in zip(LIGHTS[k:], LIGHTS[k + 1:])), len(LIGHTS)), N["leastUnleft"] // CELL,
+           "a unit a position; the least position not left")
+    yield "linearReach", reach + CELL + 1, most(lambda n: linear_slow(linearReach=n), 0, 2 * CELL + 1), "a cell and a position; cells of bent light"
 
 
 def rows():
@@ -273,8 +306,8 @@ def rows():
     yield "luminanceAbove", 3 * WEIGHTS, most(lambda h: add_low(luminanceAbove=h), 0), "`sum-up`; room below"
     yield "slopeAbove", least(lambda v: slope_above(slopeAbove=v), 10**6), most(lambda v: add_high(slopeAbove=v), 0), "least luminance; room above"
     yield "slopeBelow", least(lambda v: slope_below(slopeBelow=v), 10**6), most(lambda v: add_low(slopeBelow=v), 0), "least luminance; room below"
-    yield "roomAbove", least(lambda u: add_high(roomAbove=u), 10**6), most(lambda u: nine(roomAbove=u), 0), "units off; 9/16"
-    yield "roomBelow", least(lambda l: add_low(roomBelow=l), 10**6), most(lambda l: nine(roomBelow=l), 0), "units off; 7/16"
+    yield "roomAbove", least(lambda u: add_high(roomAbove=u) and add_high(WHOLE, roomAbove=u), 10**6), most(lambda u: nine(roomAbove=u), 0), "units off; 9/16"
+    yield "roomBelow", least(lambda l: add_low(roomBelow=l) and add_low(WHOLE, roomBelow=l), 10**6), most(lambda l: nine(roomBelow=l), 0), "units off; 7/16"
     yield "ratioUnder", least(lambda n: n > 0 and part_fits(n, part), 10**6), most(lambda n: slow(ratioUnder=n), 1), "its part; cells of bent light"
     yield "ratioOver", N["ratioUnder"] + 1, N["ratioUnder"] + 1, "one more"
     yield "ratioPart", least(lambda n: n > 0 and nine(ratioPart=n), 10**6), most(lambda n: part_fits(N["ratioUnder"], n), 1), "9/16; the ratio"
@@ -285,9 +318,11 @@ def rows():
     yield "cells", T // CELL - N["firstCell"] + 1, most(lambda n: slow(cells=range(N["firstCell"], N["firstCell"] + n)), 1, 1305), "1,000 cd/m2; ratio"
     yield "thousandAt", T, T, "the position of 1,000 cd/m2"
     yield "pointsApart", 1, most(lambda n: slow(pointsApart=n), 1, 1000), "cells of bent light"
-    yield "firstPointCell", least(points_hold, N["firstPointCell"]), (N["leastBent"] - reach) // CELL, "formula; lowest bent position"
+    yield ("firstPointCell", least(points_hold, N["firstPointCell"]), (N["leastUnleft"] - CELL - reach) // CELL,
+           "formula; a cell below the least position of a light that is not left")
     yield "lastPointCell", (T + reach) // CELL, most(points_hold, N["lastPointCell"], len(LIGHTS) - 1), "1,000 cd/m2; formula"
     yield from full_rows()
+    yield from linear_rows()
 
 
 def main(arguments):

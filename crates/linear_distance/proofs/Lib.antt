@@ -1,0 +1,12 @@
+pub mod FoundNumbers
+pub mod WholeLights
+pub mod LinearTests
+pub mod LinearSignal
+pub mod UnbentLight
+pub mod LitUnits
+pub mod FewUnits
+pub mod CutLights
+pub mod LinearCurve
+pub mod BentLights
+pub mod Theorem
+pub mod Voted
