@@ -2,11 +2,12 @@
 """The hints of the fast row: guesses that a test confirms each time, so nothing rests on their values.
 
     python3 tools/hints.py source    print crates/span/src/hint_table.rt
-    python3 tools/hints.py --check   compare that file with what would be printed
+    python3 tools/hints.py cells     print crates/span/src/cell_table.rt
+    python3 tools/hints.py --check   compare both files with what would be printed
     python3 tools/hints.py slack     how far a guess of a root may lie, how far these do, and how far the proof's inequality allows
 
-1,361 entries, three tables after one another. A number's six leading bits t, 32 to 63, count its place in the
-first two, so 32 zeros come first and no place needs a subtraction.
+The hints of every row are 1,361 entries, three tables after one another. A number's six leading bits t, 32 to 63, count
+its place in the first two, so 32 zeros come first and no place needs a subtraction.
     800 lines, 25 octaves of 32: the HLG code (before it is rounded down) of a product p of a component and a root, p
         from 2^33 to below 2^58, in a straight line over each 32nd of an octave. With x the 26 leading bits of p, its
         height is start plus slope times x, in 1/2^32 of a code; the slope stands in the low 20 bits of the entry, the
@@ -16,8 +17,12 @@ first two, so 32 zeros come first and no place needs a subtraction.
         next one lies above the curve in the middle. Between two entries lies a straight line
     331 reciprocals: 2^96 over the light of each brightest code from 610 to 940, rounded up. No peak bends a code below
         614
+Those of rows of floats, 224 entries: 32 zeros, then 6 octaves of 32 lines like the codes', the cell of the light table
+in which a light stands, from 256 cd/m2 on; no peak bends less than 330. The curve lies above its chord, so a chord that is
+lowered by more than its slope is rounded meets the cell or the one before it. Lights past 10,000 cd/m2 have none.
 Decimals of 50 digits make the lines, whole numbers the rest.
 """
+import bisect
 import sys
 from decimal import Decimal, getcontext
 from pathlib import Path
@@ -28,6 +33,7 @@ import light_table
 from generated import ROOT, run
 
 SOURCE = ROOT / "crates/span/src/hint_table.rt"
+CELLS = ROOT / "crates/span/src/cell_table.rt"
 SPREAD = 10**12                          # `spread` of the laws; LEAST and SPREAD of root.rt are 2^79 / 5^11 less it, and twice it
 getcontext().prec = 50
 
@@ -72,6 +78,28 @@ def root(top, j):
     return start - ((start + end) // 2 - middle) // 2
 
 
+def cell_at(lights, light):
+    """The cell of the light table in which a light stands, and the part of it up to the light."""
+    if light >= lights[-1]:
+        return Decimal(len(lights) - 1)
+    k = bisect.bisect_right(lights, light) - 1
+    return k + Decimal(light - lights[k]) / (lights[k + 1] - lights[k])
+
+
+def cell_line(lights, octave, top):
+    """The line over the lights from top 2^(octave + 27) on."""
+    if lights[-1] <= top << octave + 27:
+        return 0
+    start, end = (cell_at(lights, top + one << octave + 27) - Decimal(2)**-12 for one in range(2))
+    return chord(top, start, (start + end) / 2, end)
+
+
+def cells():
+    lights = light_table.light_table()
+    yield from [0] * 32
+    yield from (cell_line(lights, octave, top) for octave in range(6) for top in range(32, 64))
+
+
 def entries():
     lights = light_table.light_table()
     yield from [0] * 32
@@ -80,17 +108,29 @@ def entries():
     yield from (-(-(2**96) // lights[4 * (d - 64)]) for d in range(610, 941))
 
 
-def source():
-    hints = list(entries())
-    yield (
-        "// Made by `python3 tools/hints.py source`. Hints: a test confirms each one's use, so nothing rests on these "
-        "values. Entries 32 to 831 are lines of"
-    )
-    yield "// codes, 832 to 1,029 roots of luminances, 1,030 to 1,360 reciprocals of lights."
-    yield f"pub const HINTS: [u64; {len(hints)}] = ["
+def table(name, comment, hints):
+    """The lines of a file: what the entries of an array are, and the array."""
+    yield from comment
+    yield f"pub const {name}: [u64; {len(hints)}] = ["
     for h in hints:
         yield f"    {h},"
     yield "];"
+
+
+def source():
+    return table("HINTS", (
+        "// Made by `python3 tools/hints.py source`. Hints: a test confirms each one's use, so nothing rests on these "
+        "values. Entries 32 to 831 are lines of",
+        "// codes, 832 to 1,029 roots of luminances, 1,030 to 1,360 reciprocals of lights.",
+    ), list(entries()))
+
+
+def cell_source():
+    return table("CELLS", (
+        "// Made by `python3 tools/hints.py cells`. Hints: a test confirms each one's use, so nothing rests on these "
+        "values. Entries from 32 on are lines of",
+        "// cells of the light table, 32 to each octave of lights from 256 cd/m2 on.",
+    ), list(cells()))
 
 
 def farthest():
@@ -126,4 +166,4 @@ def slack():
 
 
 if __name__ == "__main__":
-    sys.exit(slack() if sys.argv[1:] == ["slack"] else run(sys.argv[1:], __doc__, {"source": (SOURCE, source)}))
+    sys.exit(slack() if sys.argv[1:] == ["slack"] else run(sys.argv[1:], __doc__, {"source": (SOURCE, source), "cells": (CELLS, cell_source)}))

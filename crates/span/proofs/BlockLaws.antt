@@ -19,7 +19,7 @@ use Rattle.hlg.specs.Root.{IsRoot}
 use Rattle.hlg.proofs.CodeLaws.{code-from, code-to, code-black}
 use Rattle.pixel.specs.Conversion.{brightestLight, mapped, code}
 use Rattle.pixel.proofs.PixelLaws.{mapped-dark, mapped-at-most}
-use Rattle.rows.specs.Row.{pixelAt, pixelBytes, pixelsBytes, spanBytes}
+use Rattle.rows.specs.Row.{pixelAt, pixelBytes, pixelsBytes}
 use Rattle.ycbcr.specs.declared.SignalFormat.{SignalFormat}
 use Rattle.ycbcr.specs.Delivery.{inFormat, delivered}
 use Rattle.ycbcr.proofs.DeliveryLaws.{format-at-most}
@@ -103,6 +103,11 @@ module _ (p : ℕ → Pixel) (words : List ℕ) where
   unfolding MappedTo Within
   within-mapped n most m j h i = rw (m j h i) (most j i)
 
+-- the same pixels given otherwise
+pub mapped-same : (p q : ℕ → Pixel) (words : List ℕ) (n : ℕ) → ((j : ℕ) → j < n → p j ≡ q j) → MappedTo p words n → MappedTo q words n
+unfolding MappedTo
+mapped-same p q words n e m j h i = m j h i ∙ ap (λ (o : Pixel). o i) (e j h)
+
 -- those of a row of codes are
 pub mapped-row-at-most : (source : Source) (row : List ℕ) (j : ℕ) (i : Component) → mappedRow source row j i ≤ thousand
 mapped-row-at-most source row j i = mapped-at-most source (pixelAt row j) i
@@ -131,12 +136,6 @@ module _ (format : SignalFormat) where
   block-is-pixels p words (suc n) m =
       let here : wordsAt words n ≡ p (0 + n) = fun-ext (m n (omega arith)) ∙ ap p (sym (zero-add n)) in
       ap₂ (λ (l : List ℕ) (q : Pixel). l ++ pixelBytes (samplesOf format q)) (block-is-pixels p words n (λ k h. m k (omega arith))) here
-
-  -- those of a row of codes are delivered of its pixels
-  pub block-is-row : (source : Source) (row words : List ℕ) (n : ℕ) → MappedTo (mappedRow source row) words n
-      → blockBytes format words n ≡ spanBytes (delivered format source) row 0 n
-  unfolding code
-  block-is-row source row words n m = block-is-pixels (mappedRow source row) words n m
 
   -- the bytes of one pixel more
   pub block-more : (words : List ℕ) (n : ℕ) → blockBytes format words (n + 1) ≡ blockBytes format words n ++ pixelBytes (samplesOf format (wordsAt words n))

@@ -1,7 +1,7 @@
 -- Laws of a pixel's codes: each stage on what the stage before it gave is that of the converted pixel.
 use mathlib.Core.Path.{_≡_, sym, _∙_, ap, ap₂}
 use mathlib.Core.List.{List}
-use Prim.Native.Nat.{ℕ, zero, suc, max, min, _*_, _/_, _≤_, _<_}
+use Prim.Native.Nat.{ℕ, zero, suc, max, min, _*_, _≤_, _<_}
 use native.Mathlib.Nat.{div-zero}
 use native.Mathlib.Omega.{arith}
 use Rattle.laws.proofs.DivisionLaws.{floor-is}
@@ -17,12 +17,13 @@ use Rattle.eetf.specs.Curve.{peakPositionRead, bentLightIn, bentLight, mappedLi
 use Rattle.eetf.proofs.CurveLaws.{bent-on-light-table}
 use Rattle.hlg.specs.Code.{HlgCodes}
 use Rattle.pixel.specs.Conversion.{brightestLight, brightestPosition, bent, mapped, code}
-use Rattle.pixel.proofs.PixelLaws.{component-le, brightest-light-at-most, brightest-position-range}
+use Rattle.pixel.proofs.PixelLaws.{brightest-light-at-most, brightest-position-range}
 
--- c m / m is c, also where both are 0
-unscaled : (c m : ℕ) → c ≤ m → c ≡ c * m / m
-unscaled c zero h = let e : c ≡ 0 = omega arith in e ∙ sym (div-zero (c * 0))
-unscaled c (suc m) h = let pos : 0 < suc m = omega arith in floor-is pos .1 (omega arith, omega arith)
+-- a light stays where the brightest one does; where that is 0, so is the light
+pub unbent-light : (c m n : ℕ) → c ≤ m → m ≡ n → c ≡ mappedLight c m n
+unfolding mappedLight
+unbent-light c zero n h e = let none : c ≡ 0 = omega arith in none ∙ sym (div-zero (c * n))
+unbent-light c (suc m) n h e = let pos : 0 < suc m = omega arith in floor-is pos .1 (omega (arith, ap (λ k. c * k) e), omega (arith, ap (λ k. c * k) e))
 
 module _ (source : Source) (p : Pixel) where
   abbrev f : SampleFormat
@@ -46,12 +47,6 @@ module _ (source : Source) (p : Pixel) where
       → x ≡ mapped source p i
   unfolding mapped
   mapped-is i eC eM eN e = e ∙ rw (eC, eM, eN)
-
-  -- where nothing is bent the mapped components are the lights
-  pub mapped-unbent : (i : Component) {C M N : ℕ} → C ≡ codeLight f (p i) → M ≡ brightestLight f p → N ≡ bent source p → M ≡ N → C ≡ mapped source p i
-  unfolding mapped mappedLight
-  mapped-unbent i {C} {M} eC eM eN same =
-      unscaled C M (omega (arith, component-le f p i)) ∙ ap₂ (λ (c d : ℕ). c * d / M) eC (same ∙ eN) ∙ ap (λ (d : ℕ). codeLight f (p i) * bent source p / d) eM
 
   pub codes-are : {R G B r g b : ℕ} → R ≡ mapped source p red → G ≡ mapped source p green → B ≡ mapped source p blue → HlgCodes R G B r g b
       → (r ≡ code source p red) × (g ≡ code source p green) × (b ≡ code source p blue)

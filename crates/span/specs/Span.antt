@@ -7,6 +7,7 @@ use Rattle.eetf.specs.Curve.{peakRead}
 use Rattle.pixel.specs.Conversion.{code}
 use Rattle.ycbcr.specs.declared.SignalFormat.{SignalFormat}
 use Rattle.ycbcr.specs.Delivery.{delivered}
+use Rattle.linear_light.specs.Conversion.{Values, linearCode}
 
 -- what is declared of a source as it is read
 abbrev pub sourceRead : Source → Source
@@ -19,6 +20,10 @@ codesUnder source = code (sourceRead source)
 -- what a format delivers of them
 abbrev pub deliveredUnder : SignalFormat → Source → Pixel → Pixel
 deliveredUnder format source = delivered format (sourceRead source)
+
+-- the HLG codes of a pixel of values in cd/m2 (request 11)
+abbrev pub linearCodesUnder : ℕ → Values → Pixel
+linearCodesUnder peak = linearCode (peakRead peak)
 
 -- an RGB code as it is read: HLG has none below 64 and none above 1,019
 abbrev pub hlgRead : ℕ → ℕ

@@ -2,7 +2,7 @@
 // no pixel waits for another, so a processor works on several at once. A pixel that equals the one before it takes over what that was given: flat areas
 // are mostly such pixels.
 ghost use mathlib.Core.Path.{_≡_};
-ghost use Prim.Native.Nat.{_*_, _≤_, _<_};
+ghost use Prim.Native.Nat.{ℕ, _+_, _*_, _≤_, _<_};
 ghost use lib.ListN.{length};
 ghost use Rattle.quantity.specs.Units.{units, thousand};
 ghost use Rattle.quantity.specs.SampleFormat.{black};
@@ -13,12 +13,14 @@ ghost use Rattle.hlg_steps.specs.StepTable.{stepTable};
 ghost use Rattle.hlg.specs.Code.{luminance};
 ghost use Rattle.hlg.specs.Root.{IsRoot};
 ghost use Rattle.pixel.specs.Conversion.{mapped};
-ghost use Rattle.rows.specs.Row.{sampleAt, spanBytes};
-ghost use Rattle.ycbcr.specs.Delivery.{delivered};
+ghost use Rattle.rows.specs.Row.{sampleAt, pixelsBytes};
 ghost use Rattle.span.specs.Block.{HasMapped, wordsAt, storedAt, MappedTo, mappedRow, Within, RootsTo, HasSamples, blockBytes};
+ghost use Rattle.span.specs.Linear.{IsCurve, mappedPixel, deliveredPixel, HasPixels};
 use crate::Samples;
+use crate::curve::Curve;
 use crate::delivery::samples_in;
 use crate::delivery::write_samples;
+use crate::linear::map_linear_pixels;
 use crate::mapping::Mapped;
 use crate::mapping::mapped_lights;
 use crate::near::near_codes;
@@ -32,29 +34,76 @@ use quantity::sample_format::black_code;
 use rows::sample_at;
 use ycbcr::SignalFormat;
 
-// The pixels that fill dst, at most a block of them, converted from the first ones of src.
+// The pixels that fill dst, at most a block of them, converted from those of a row of codes, or of floats, from pixel j on.
 pub(crate) fn convert_block(
     lights: &[u64; 3505],
     steps: &[u64; 955],
     hints: &[u64; 1361],
-    w: Position,
+    cells: &[u64; 224],
+    curve: Curve,
     source: Source,
     format: SignalFormat,
+    linear: bool,
     src: &[u8],
+    values: &[f32],
+    j: usize,
     dst: &mut [u8],
     pixels: usize,
 )
-    requires { ⌜ (now lights ≡ lightTable) × (now steps ≡ stepTable) × (w .0 ≡ positionOf (source .peak * units)) × (pixels ≤ 32)
-        × (length (now dst) ≡ 6 * pixels) × (6 * pixels ≤ length (now src)) ⌝ }
-    ensures { λ _. ⌜ now (dst .exit) ≡ spanBytes (delivered format source) (now (src .entry)) 0 pixels ⌝ }
+    requires { ⌜ (now lights ≡ lightTable) × (now steps ≡ stepTable) × IsCurve (curve .peak) (curve .position) (curve .knee)
+        × (curve .peak ≡ source .peak) × HasPixels linear (length (now src)) (length (now values)) (j + pixels) × (pixels ≤ 32)
+        × (length (now dst) ≡ 6 * pixels) ⌝ }
+    ensures { λ _. ⌜ now (dst .exit) ≡ pixelsBytes (deliveredPixel linear format source (now (src .entry)) (now (values .entry))) j pixels ⌝ }
 {
     let mut mapped = [0u64; 96];
-    map_pixels(lights, hints, w, source, src, &mut mapped, pixels);
+    map_block(
+        lights,
+        hints,
+        cells,
+        curve,
+        source,
+        linear,
+        src,
+        values,
+        j,
+        &mut mapped,
+        pixels,
+    );
     code_block(steps, hints, format, &mapped, dst, pixels);
 }
 
+// The first pass over the pixels of a row from pixel j on.
+fn map_block(
+    lights: &[u64; 3505],
+    hints: &[u64; 1361],
+    cells: &[u64; 224],
+    curve: Curve,
+    source: Source,
+    linear: bool,
+    src: &[u8],
+    values: &[f32],
+    j: usize,
+    words: &mut [u64; 96],
+    pixels: usize,
+)
+    requires { ⌜ (now lights ≡ lightTable) × IsCurve (curve .peak) (curve .position) (curve .knee) × (curve .peak ≡ source .peak)
+        × HasPixels linear (length (now src)) (length (now values)) (j + pixels) × (pixels ≤ 32) × (length (now words) ≡ 96) ⌝ }
+    ensures { λ _. ⌜ MappedTo (λ (k : ℕ). mappedPixel linear source (now (src .entry)) (now (values .entry)) (j + k)) (now (words .exit)) pixels ⌝ }
+{
+    if linear {
+        let value = 3 * j;
+        let next = value + 3 * pixels;
+        map_linear_pixels(lights, cells, curve, &values[value..next], words, pixels);
+        return;
+    }
+    let from = 6 * j;
+    let to = from + 6 * pixels;
+    let w = Position(curve.position);
+    map_pixels(lights, hints, w, source, &src[from..to], words, pixels);
+}
+
 // The passes after the first: the bytes of what is delivered of mapped pixels.
-pub(crate) fn code_block(
+fn code_block(
     steps: &[u64; 955],
     hints: &[u64; 1361],
     format: SignalFormat,
@@ -158,7 +207,7 @@ fn map_pixels(
 }
 
 // The mapped components of pixel j, stored and read.
-fn store_words(m: Mapped, words: &mut [u64; 96], j: usize)
+pub(crate) fn store_words(m: Mapped, words: &mut [u64; 96], j: usize)
     requires { ⌜ j < 32 ⌝ }
     ensures { λ _. ⌜ now (words .exit) ≡ storedAt (now (words .entry)) j (m .red) (m .green) (m .blue) ⌝ }
 {

@@ -1,9 +1,13 @@
 // The fast conversion, of a span in either signal format and of one pixel: any samples under any declared peak. What pixels share, the tables and the
 // peak's position, is found once a call and lent.
 mod block;
+mod cell;
+mod cell_table;
+mod curve;
 mod delivery;
 mod hint_table;
 mod hints;
+pub mod linear;
 mod mapping;
 mod near;
 mod root;
@@ -17,13 +21,16 @@ ghost use Rattle.quantity.specs.Component.{red, green, blue, pixel};
 ghost use Rattle.pq.specs.LightTable.{lightTable};
 ghost use Rattle.position.specs.Position.{positionOf};
 ghost use Rattle.hlg_steps.specs.StepTable.{stepTable};
-ghost use Rattle.rows.specs.Row.{spanBytes, convertedInto};
+ghost use Rattle.rows.specs.Row.{pixelsBytes, convertedInto};
 ghost use Rattle.ycbcr.specs.YCbCr.{luma, cb, cr};
-ghost use Rattle.ycbcr.specs.Delivery.{delivered};
 ghost use Rattle.span.specs.Span.{sourceRead, codesUnder, deliveredUnder, hlgRead};
+ghost use Rattle.span.specs.Linear.{IsCurve, deliveredPixel, HasPixels};
 use block::convert_block;
+use curve::Curve;
+use curve::curve_of;
 use delivery::luma_and_chroma;
 use eetf::read_peak;
+use hints::cell_table;
 use hints::hint_table;
 use hlg::Codes;
 use hlg_steps::step_table;
@@ -57,12 +64,8 @@ pub fn convert_span(source: Source, format: SignalFormat, src: &[u8], dst: &mut 
     if pixels == 0 {
         return;
     }
-    let read = read_source(source);
-    let mut lights = [0u64; 3505];
-    let w = fill_lights(&mut lights, DisplayLight(read.peak * UNITS));
-    let steps = step_table();
-    let hints = hint_table();
-    convert_blocks(&lights, &steps, &hints, w, read, format, src, dst, pixels);
+    let none = [0.0f32; 1];
+    convert_pixels(source, format, false, src, &none, dst, pixels);
 }
 
 // The HLG codes of one pixel, for which alone the tables are filled.
@@ -107,21 +110,63 @@ fn read_hlg(d: u64) -> u64
     smaller(larger(d, 64), 1019)
 }
 
-// The first pixels of dst, converted from those of src, block by block. Other bytes of dst remain.
+// The first pixels of dst, converted from those of a row of codes, or of floats. The tables stand in the same function as the passes over them, which the
+// compiler makes one: lent from elsewhere they cost each pixel a few instructions.
+pub(crate) fn convert_pixels(
+    source: Source,
+    format: SignalFormat,
+    linear: bool,
+    src: &[u8],
+    values: &[f32],
+    dst: &mut [u8],
+    pixels: usize,
+)
+    requires { ⌜ HasPixels linear (length (now src)) (length (now values)) pixels × (6 * pixels ≤ length (now dst)) ⌝ }
+    ensures { λ _. ⌜ now (dst .exit) ≡ pixelsBytes (deliveredPixel linear format (sourceRead source) (now (src .entry)) (now (values .entry))) 0 pixels
+        ++ drop (6 * pixels) (now (dst .entry)) ⌝ }
+{
+    let read = read_source(source);
+    let mut lights = [0u64; 3505];
+    let w = fill_lights(&mut lights, DisplayLight(read.peak * UNITS));
+    let cells = cell_table();
+    let curve = curve_of(&lights, &cells, read.peak, w);
+    let steps = step_table();
+    let hints = hint_table();
+    convert_blocks(
+        &lights,
+        &steps,
+        &hints,
+        &cells,
+        curve,
+        read,
+        format,
+        linear,
+        src,
+        values,
+        dst,
+        pixels,
+    );
+}
+
+// The same on lent tables, block by block. Other bytes of dst remain.
 fn convert_blocks(
     lights: &[u64; 3505],
     steps: &[u64; 955],
     hints: &[u64; 1361],
-    w: Position,
+    cells: &[u64; 224],
+    curve: Curve,
     source: Source,
     format: SignalFormat,
+    linear: bool,
     src: &[u8],
+    values: &[f32],
     dst: &mut [u8],
     pixels: usize,
 )
-    requires { ⌜ (now lights ≡ lightTable) × (now steps ≡ stepTable) × (w .0 ≡ positionOf (source .peak * units))
-        × (6 * pixels ≤ length (now dst)) × (6 * pixels ≤ length (now src)) ⌝ }
-    ensures { λ _. ⌜ now (dst .exit) ≡ spanBytes (delivered format source) (now (src .entry)) 0 pixels ++ drop (6 * pixels) (now (dst .entry)) ⌝ }
+    requires { ⌜ (now lights ≡ lightTable) × (now steps ≡ stepTable) × IsCurve (curve .peak) (curve .position) (curve .knee)
+        × (curve .peak ≡ source .peak) × HasPixels linear (length (now src)) (length (now values)) pixels × (6 * pixels ≤ length (now dst)) ⌝ }
+    ensures { λ _. ⌜ now (dst .exit) ≡ pixelsBytes (deliveredPixel linear format source (now (src .entry)) (now (values .entry))) 0 pixels
+        ++ drop (6 * pixels) (now (dst .entry)) ⌝ }
 {
     let mut j = 0;
     while j < pixels {
@@ -132,10 +177,14 @@ fn convert_blocks(
             lights,
             steps,
             hints,
-            w,
+            cells,
+            curve,
             source,
             format,
-            &src[from..to],
+            linear,
+            src,
+            values,
+            j,
             &mut dst[from..to],
             count,
         );

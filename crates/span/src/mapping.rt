@@ -38,7 +38,7 @@ pub(crate) struct Mapped {
 }
 
 // floor(c × m2 / m1) by a guess of 2^62 m2 / m1: a quotient that fails its test is divided out.
-fn scaled(c: u64, m1: u64, m2: u64, factor: u64) -> u64
+pub(crate) fn scaled(c: u64, m1: u64, m2: u64, factor: u64) -> u64
     requires { ⌜ (c ≤ m1) × (m1 ≤ tenThousand) × (m2 ≤ thousand) ⌝ }
     ensures { λ r. ⌜ r ≡ mappedLight c m1 m2 ⌝ }
 {

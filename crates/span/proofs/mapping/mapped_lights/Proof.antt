@@ -5,12 +5,11 @@ use native.Mathlib.Omega.{arith}
 use borrow.Author.Needs.{needs}
 use Rattle.quantity.specs.Units.{thousand, tenThousand}
 use Rattle.quantity.specs.declared.sample_format.SampleFormat.{SampleFormat}
-use Rattle.quantity.specs.declared.Source.{Source}
 use Rattle.quantity.specs.Component.{Component, red, green, blue, Pixel, pixel}
 use Rattle.position.specs.Code.{codeLight}
 use Rattle.pixel.specs.Conversion.{brightestLight, bent}
 use Rattle.pixel.proofs.PixelLaws.{component-le, brightest-light-at-most, bent-at-most}
-use Rattle.span.proofs.CodesLaws.{brightest-light-is, bent-is, mapped-is, mapped-unbent}
+use Rattle.span.proofs.CodesLaws.{unbent-light, brightest-light-is, bent-is, mapped-is}
 use Rattle.span.proofs.mapping.mapped_lights.Statement.{statement}
 use Rattle.span.proofs.mapping.mapped_lights.Tie as tie
 
@@ -37,55 +36,53 @@ bent-to c =
     bent-is _ (taken (c .before)) (s .args .lights .now) (s .args .w .0) (s .pre .0) (s .pre .1)
     (brightest-light (c .before)) (c .before .before .pixel-lights .ensures .position) (c .bent-light .ensures)
 
+-- the light of a component is at most the brightest
+inside : (c : tie.After-brightest-of) (i : Component) {C : ℕ} → C ≡ codeLight (format c) (taken c i) → C ≤ c .brightest-of .result
+inside c i e = omega (arith, brightest-light c, component-le (format c) (taken c) i)
+
 returns : tie.Need-returns
 returns c =
     let d = c .before .before in
     let source = start d .args .source in
+    let x = d .before .pixel-lights .ensures in
     let m1 = brightest-light d in
     let m2 = bent-to (c .before) in
     let same = c .if1 .taken in (
-      mapped-unbent source (taken d) red (d .before .pixel-lights .ensures .red) m1 m2 same,
-      mapped-unbent source (taken d) green (d .before .pixel-lights .ensures .green) m1 m2 same,
-      mapped-unbent source (taken d) blue (d .before .pixel-lights .ensures .blue) m1 m2 same,
+      mapped-is source (taken d) red (x .red) m1 m2 (unbent-light _ _ _ (inside d red (x .red)) same),
+      mapped-is source (taken d) green (x .green) m1 m2 (unbent-light _ _ _ (inside d green (x .green)) same),
+      mapped-is source (taken d) blue (x .blue) m1 m2 (unbent-light _ _ _ (inside d blue (x .blue)) same),
     )
 
--- what scaling asks of the light of a component
-room : (source : Source) (p : Pixel) (i : Component) {C M N : ℕ}
-    → C ≡ codeLight (source .format) (p i) → M ≡ brightestLight (source .format) p → N ≡ bent source p → (C ≤ M) × (M ≤ tenThousand) × (N ≤ thousand)
-room source p i eC eM eN = (
-  omega (arith, component-le (source .format) p i),
-  omega (arith, brightest-light-at-most (source .format) p),
-  omega (arith, bent-at-most source p),
-)
+-- what scaling asks of one
+room : (c : tie.After-bent-light) (i : Component) {C : ℕ} → C ≡ codeLight (format (c .before)) (taken (c .before) i)
+    → (C ≤ c .before .brightest-of .result) × (c .before .brightest-of .result ≤ tenThousand) × (c .bent-light .result .0 ≤ thousand)
+room c i e =
+    let d = c .before in (
+      inside d i e,
+      omega (arith, brightest-light d, brightest-light-at-most (format d) (taken d)),
+      omega (arith, bent-to c, bent-at-most (start d .args .source) (taken d)),
+    )
 
 scaled-requires : tie.Need-scaled-requires
-scaled-requires c κs =
-    let b = c .before .before in
-    let d = b .before in
-    room _ (taken d) red (d .before .pixel-lights .ensures .red) (brightest-light d) (bent-to b)
+scaled-requires c κs = let b = c .before .before in room b red (b .before .before .pixel-lights .ensures .red)
 
 scaled-requires-2 : tie.Need-scaled-requires-2
-scaled-requires-2 c κs =
-    let b = c .before .before .before in
-    let d = b .before in
-    room _ (taken d) green (d .before .pixel-lights .ensures .green) (brightest-light d) (bent-to b)
+scaled-requires-2 c κs = let b = c .before .before .before in room b green (b .before .before .pixel-lights .ensures .green)
 
 scaled-requires-3 : tie.Need-scaled-requires-3
-scaled-requires-3 c κs =
-    let b = c .before .before .before .before in
-    let d = b .before in
-    room _ (taken d) blue (d .before .pixel-lights .ensures .blue) (brightest-light d) (bent-to b)
+scaled-requires-3 c κs = let b = c .before .before .before .before in room b blue (b .before .before .pixel-lights .ensures .blue)
 
 returns-2 : tie.Need-returns-2
 returns-2 c =
     let b = c .before .before .before .before .before in
     let d = b .before in
     let source = start d .args .source in
+    let x = d .before .pixel-lights .ensures in
     let m1 = brightest-light d in
     let m2 = bent-to b in (
-      mapped-is source (taken d) red (d .before .pixel-lights .ensures .red) m1 m2 (c .before .before .scaled .ensures),
-      mapped-is source (taken d) green (d .before .pixel-lights .ensures .green) m1 m2 (c .before .scaled2 .ensures),
-      mapped-is source (taken d) blue (d .before .pixel-lights .ensures .blue) m1 m2 (c .scaled3 .ensures),
+      mapped-is source (taken d) red (x .red) m1 m2 (c .before .before .scaled .ensures),
+      mapped-is source (taken d) green (x .green) m1 m2 (c .before .scaled2 .ensures),
+      mapped-is source (taken d) blue (x .blue) m1 m2 (c .scaled3 .ensures),
     )
 
 pub mapped-lights-spec : {M : Type 1} → statement M
