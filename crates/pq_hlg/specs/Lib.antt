@@ -1,2 +1,3 @@
 pub mod Pixel
 pub mod Row
+pub mod Linear

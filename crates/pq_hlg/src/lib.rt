@@ -1,5 +1,7 @@
 // The engine's calls: one pixel, its Y'CbCr, a span of a row as RGB or as Y'CbCr, and the row calls for a host in C. Samples are PQ code values of the
-// source's depth and range in, and HLG ones of ten bits and narrow range out; a peak is in whole cd/m2.
+// source's depth and range in, and HLG ones of ten bits and narrow range out; a peak is in whole cd/m2. `linear` has the calls on floats.
+pub mod linear;
+
 ghost use mathlib.Core.Path.{_≡_};
 ghost use lib.ListN.{length};
 ghost use Rattle.quantity.specs.Component.{pixel};
