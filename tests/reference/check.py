@@ -1,4 +1,4 @@
-"""Every number that document 01 and requests 01 to 08 name, and the laws between their parts.
+"""Every number that document 01 and requests 01 to 11 name, and the laws between their parts.
 
     python3 -m tests.reference.check
 
@@ -13,12 +13,14 @@ from decimal import ROUND_HALF_UP, Decimal, localcontext
 from fractions import Fraction
 from functools import lru_cache
 from io import BytesIO
-from itertools import product
+from itertools import islice, product
 from math import gcd, isqrt
 from pathlib import Path
 from random import Random
+from struct import pack, unpack
 
-from . import content_light, curve, display_light, exact, hlg, light, measure, metadata, program, returned, row, sample_format, scene_light
+from . import (content_light, curve, display_light, exact, hlg, light, linear, linear_cases, measure, metadata, program, returned, row, sample_format,
+               scene_light)
 from .cases import CORNER_CODES, CORNERS, UNIT_PIXELS, row as row_bytes, row_calls, title, word, ycbcr_codes
 from .format_cases import LIMITS, POSITION_PIXELS, UNREAD, format_row_calls
 from .light import A, BRIGHTEST, END, LAST, N, P, STEPS
@@ -30,7 +32,7 @@ from .rounding import power, power_below
 from .sample_format import FORMATS, FULL_RANGE, TEN_FULL, TEN_NARROW, TWELVE_BITS, TWELVE_FULL, TWELVE_NARROW, Format, format_of
 from .samples import MARKED_PEAKS, draw_measured_row, draw_palette, draw_peaks, draw_pixel
 from .scene_light import S
-from .survey import bound, in_inner_zone, quick_distance
+from .survey import LINEAR, bound, draw_linear, in_inner_zone, quick_distance
 from .vectors import FILL, converted, measured
 from .ycbcr import by_fractions, convert_codes, luma_sum, round_away, unrounded, ycbcr
 
@@ -1120,6 +1122,193 @@ def return_rows():
         here == there for call in return_row_calls(Random(16)) for here, there in [numbers(*call)])
 
 
+# Request 11: linear float frames
+
+def of_host(bits):
+    """A float by the machine's own decoding."""
+    return unpack("=f", pack("=I", bits))[0]
+
+
+def class_limits():
+    named = (
+        (0, "light", 0), (0x8000_0000, "light", 0), (1, "light", 0), (0x007F_FFFF, "light", 0), (0x0080_0000, "light", 0),
+        (0x8000_0001, "negative", 0), (0x8080_0000, "negative", 0), (0xBF80_0000, "negative", 0), (0xC61C_4000, "negative", 0), (0xFF7F_FFFF, "negative", 0),
+        (0x337F_FFFF, "light", 0), (0x3380_0000, "light", 1), (0x3380_0001, "light", 1), (0x33FF_FFFF, "light", 1), (0x3400_0000, "light", 2),
+        (0x3F80_0000, "light", N), (0x3DCC_CCCD, "light", 1_677_721), (0x447A_0000, "light", A), (0x461C_3FFF, "light", BRIGHTEST - N // 1_024),
+        (0x461C_4000, "light", BRIGHTEST), (0x461C_4001, "too bright", BRIGHTEST), (0x7F7F_FFFF, "too bright", BRIGHTEST))
+    for bits, name, units in named:
+        yield f"{bits:08x} is {name} as it was given, and has {units} units", (
+            linear.class_of(bits) == (name, bits) and linear.whole_light(bits) == linear.by_fractions(bits) == units)
+    yield "10,000 cd/m2 is 461c4000, 1,000 is 447a0000", [linear.value(bits) for bits in (0x461C_4000, 0x447A_0000)] == [10_000, 1_000]
+    yield "the smallest float above 0 is 2^-149, the largest is (2 - 2^-23) x 2^127", (
+        linear.value(1) == Fraction(1, 2**149) and linear.value(0x7F7F_FFFF) == 2**128 - 2**104)
+    yield "infinities and what is no number are refused by 16 at 0", all(
+        refusal(linear.class_of, bits) == (16, 0) for bits in (*linear_cases.REFUSED, 0x7F80_0000, 0xFF80_0000))
+    yield "two of those stored are infinite, the others no numbers, half of them quiet", (
+        [of_host(bits) for bits in linear_cases.REFUSED[:2]] == [float("inf"), float("-inf")]
+        and all(of_host(bits) != of_host(bits) for bits in linear_cases.NO_NUMBERS) and sum(bits >> 22 & 1 for bits in linear_cases.NO_NUMBERS) == 5)
+
+
+def every_pattern():
+    """Classes are decided by the order of patterns, so their limits count all of them."""
+    light_patterns, negative, too_bright = 0x461C_4001 + 1, 0x7F80_0000 - 1, 0x7F80_0000 - 0x461C_4001
+    yield "light, negative, too bright and refused patterns are all that there are", light_patterns + negative + too_bright + 2 * 2**23 == 2**32
+    random = Random(17)
+    drawn = sorted([random.getrandbits(31) for _ in range(4_000)] + [e * 2**23 + beside for e in range(256) for beside in (0, 1, 2**23 - 1)])
+    finite = [bits for bits in drawn if bits < 0x7F80_0000]
+    yield "each finite pattern has the value of the machine's own decoding, either sign", all(
+        linear.value(bits) == Fraction(of_host(bits)) == -linear.value(bits + 2**31) for bits in finite)
+    yield "values rise with their patterns, strictly, and lights do not fall", all(
+        linear.value(x) < linear.value(y) and linear.whole_light(x) <= linear.whole_light(y) for x, y in zip(finite, finite[1:]) if x < y)
+    yield "a pattern is refused just where its exponent is the highest", all(
+        (refusal(linear.class_of, bits) is None) == (bits % 2**31 < 0x7F80_0000) for bits in (*drawn, *(bits + 2**31 for bits in drawn)))
+    yield "classes are those of comparisons by the machine", all(
+        linear.class_of(bits)[0] == ("negative" if of_host(bits) < 0 else "too bright" if of_host(bits) > 10_000 else "light")
+        for bits in (*finite, *(bits + 2**31 for bits in finite)))
+
+
+    yield "a value counts as its class says", all(
+        linear.counted(bits) == {"light": linear.value(bits), "negative": 0, "too bright": 10_000}[linear.class_of(bits)[0]]
+        for bits in (*finite, *(bits + 2**31 for bits in finite)))
+
+
+def whole_lights():
+    random = Random(18)
+    drawn = [linear_cases.draw_light(random) for _ in range(1_500)] + [linear_cases.draw_dim(random) for _ in range(1_500)]
+
+    def in_decimals(bits):
+        with localcontext() as wide:
+            wide.prec = 250                 # a float has 112 digits at most, so nothing is rounded
+            return int(min(Decimal(of_host(bits)), Decimal(10_000)) * N)
+    yield "the whole light is the product in decimals without its places", all(
+        linear.whole_light(bits) == in_decimals(bits) for bits in (*drawn, *linear_cases.SUBNORMAL, *linear_cases.TOO_BRIGHT))
+    some = [*drawn, *(random.getrandbits(31) % 0x7F80_0000 + random.randrange(2) * 2**31 for _ in range(3_000))]
+    yield "whole numbers give what fractions give", all(linear.whole_light(bits) == linear.by_fractions(bits) for bits in some)
+    units = [*range(1, 3_000), *(random.randrange(1, 2**24) for _ in range(2_000))]
+    yield "so many units are a float, and the one before it has a unit less", all(
+        linear.value(bits) == Fraction(unit, N) and linear.whole_light(bits) == unit and linear.whole_light(bits - 1) == unit - 1
+        for unit in units for bits in [linear_cases.of_light(unit)])
+    yield "from 1 cd/m2 on a float is a whole number of units", all(
+        linear.value(bits) * N == linear.whole_light(bits) for bits in (random.randrange(0x3F80_0000, 0x461C_4001) for _ in range(2_000)))
+    entries = [linear_cases.of_light(p) for p in P]
+    yield "the float at or before each table entry has no more light, the next one more", all(
+        linear.whole_light(bits) <= p < linear.value(bits + 1) * N for p, bits in zip(P, entries))
+    are_floats = [linear.value(bits) * N == p for p, bits in zip(P, entries)]
+    yield "682 entries are floats: those that 24 bits hold, zeros behind them apart", (
+        sum(are_floats) == 682 and are_floats == [p == 0 or p // (p & -p) < 2**24 for p in P])
+    yield "up to an entry a light stands before its position, from it on there", all(
+        light.position_of(linear.whole_light(bits)) >= 256 * k if linear.value(bits) * N >= P[k] else light.position_of(linear.whole_light(bits)) < 256 * k
+        for k in range(1, LAST + 1) for bits in linear_cases.beside(entries[k]))
+
+
+def linear_corners():
+    lights = {64: 0, 723: 0x447A_0000}
+    for pixel, codes in zip(CORNERS, CORNER_CODES):
+        yield f"lights of {pixel} in floats, peak 1,000: {codes}", linear.convert_pixel(1_000, [lights[D] for D in pixel]) == codes
+    for bits, L, code in ((0x447A_0000, 1_000, 940), (0x461C_4000, 10_000, 940), (0x461C_4001, 10_000, 940), (0x461C_4000, 1, 940), (0, 4_000, 64),
+                          (0x8000_0000, 4_000, 64), (0xC47A_0000, 1_000, 64), (1, 1_000, 64), (0x337F_FFFF, 1_000, 64), (0x7F7F_FFFF, 4_000, 940)):
+        yield f"grey {bits:08x}, peak {L}: {code}", linear.convert_pixel(L, grey(bits)) == grey(code)
+
+
+def linear_pixels():
+    random = Random(19)
+    cases = [(L, linear_cases.draw_pixel(random, L)) for L in draw_peaks(random, 100) for _ in range(20)]
+    yield "a pixel counts by what its values count as", all(
+        linear.hlg_codes(L, pixel) == linear.hlg_codes(L, [linear_cases.float_below(linear.counted(bits)) for bits in pixel]) for L, pixel in cases)
+    yield "no mapped component exceeds 1,000 cd/m2", all(
+        max(linear.mapped_lights(L, [linear.whole_light(bits) for bits in pixel])) <= A for L, pixel in cases)
+
+    def ordered(L, pixel):
+        lights = sorted(map(linear.whole_light, pixel))
+        mapped, codes = linear.mapped_lights(L, lights), linear.codes_of_lights(L, lights)
+        return list(mapped) == sorted(mapped) and list(codes) == sorted(codes)
+    yield "a brighter component stays at least as bright", all(ordered(*case) for case in cases)
+    coded = [(L, pixel) for L in draw_peaks(random, 60) for pixel in [draw_pixel(random, L) for _ in range(20)] if max(pixel) > 64]
+    yield "lights of ten-bit codes become what the codes become", all(
+        linear.codes_of_lights(L, [light.light_of_code(D) for D in pixel]) == hlg_codes(L, pixel) for L, pixel in coded)
+    yield "the position of a light of a code is the code's, but of black", all(
+        light.position_of(light.light_of_code(D)) == curve.position_of_code(D) for D in range(65, 941)) and light.position_of(0) == 3
+    steps = [(L, pixel) for L in (1_500, 4_000, 10_000) for pixel in linear_cases.step_pixels(random, L, 30)]
+    yield "of pixels beside a step one that hangs on rounding the product is found, and one that hangs on the position", (
+        any(linear.hlg_codes(L, pixel) != linear.codes_of_lights(L, [scene_light.nearest(linear.counted(bits) * N) for bits in pixel]) for L, pixel in steps)
+        and any(linear.hlg_codes(L, pixel) != next_position_codes(L, pixel) for L, pixel in steps))
+
+
+def next_position_codes(L, pixel):
+    """The codes if the curve took the position after the brightest light's."""
+    lights = [linear.whole_light(bits) for bits in pixel]
+    M1 = max(lights)
+    return hlg.codes([curve.scale(each, curve.bend(M1, light.position_of(M1) + 1, L), M1) for each in lights])
+
+
+def linear_greys():
+    """Where the curve sets in, lights just below the knee remain and those from it on are those of positions: the code of a grey may fall there."""
+    def code(M2):
+        return hlg.code(M2, hlg.luminance(grey(M2)))
+    falls = []
+    for L in range(1_001, 10_001):
+        first = linear_cases.knee_light(L)
+        if code(first - 1) > code(curve.bend(first, light.position_of(first), L)):
+            falls.append(L)
+    yield "greys fall at the knee under six peaks", falls == [1_967, 2_845, 7_388, 7_497, 7_949, 9_614]
+    for L in falls:
+        first = linear_cases.of_light(linear_cases.knee_light(L) - 1) + 1
+        low, high = (linear.hlg_codes(L, grey(bits)) for bits in (first - 1, first))
+        yield f"peak {L}: two floats beside each other fall by one code", [x - y for x, y in zip(low, high)] == [1, 1, 1]
+
+
+def linear_refusals():
+    good, bad = 0x3F80_0000, 0x7FC0_0000
+    yield "16 at each place", [refusal(linear.convert_pixel, 1_000, pixel) for pixel in (
+        (bad, good, good), (good, bad, good), (good, good, bad), (good, bad, bad))] == [(16, 0), (16, 1), (16, 2), (16, 1)]
+    yield "5 comes before 16", all(refusal(linear.convert_pixel, L, grey(bad)) == (5, 0) for L in (0, 10_001, 2**64 - 1))
+    yield "peaks 1 and 10,000 are taken", all(refusal(linear.convert_pixel, L, grey(good)) is None for L in (1, 10_000))
+    yield "negative and too bright values are taken", refusal(linear.convert_pixel, 1_000, (0xFF7F_FFFF, 0x7F7F_FFFF, 0x8000_0000)) is None
+
+
+def linear_rows():
+    lights = {64: 0, 723: 0x447A_0000}
+    data, whole = [lights[D] for pixel in CORNERS for D in pixel], row_bytes(*CORNER_CODES)
+    for first in range(9):
+        for end in range(first, 9):
+            destination, wanted = (bytearray([FILL]) * len(whole) for _ in range(2))
+            number = linear.c_number(1_000, data, destination, first, end)
+            wanted[6 * first:6 * end] = whole[6 * first:6 * end]
+            yield f"linear, pixels {first} to {end}: these places and no others", (number, destination) == (0, wanted)
+    bad = [0x3F80_0000] * 5 + [0xFF80_0000] + [0x3F80_0000] * 3
+    calls = (                           # number, peak, row, bytes of the destination, first, end
+        (5, 0, bad[1:], 1, 2, 1), (15, 1, bad[1:], 1, 2, 1), (15, 1, [0] * 24_579, 49_158, 0, 0), (15, 1, [0] * 24_577, 49_154, 0, 0),
+        (0, 1, [0] * 24_576, 49_152, 0, 0), (7, 1, bad, 1, 2, 1), (7, 1, bad, 9, 0, 1), (7, 1, bad, 36, 0, 1), (8, 1, bad, 18, 2, 1), (8, 1, bad, 18, 0, 4),
+        (16 + 256 * 5, 1, bad, 18, 0, 3), (16 + 256 * 5, 1, bad, 18, 1, 2), (0, 1, bad, 18, 2, 3), (0, 1, bad, 18, 0, 1), (0, 1, bad, 18, 3, 3),
+        (0, 1, [], 0, 0, 0), (8, 1, [], 0, 0, 1), (7, 1, [], 6, 0, 0))
+    for number, peak, given, length, first, end in calls:
+        destination = bytearray([FILL]) * length
+        answer = linear.c_number(peak, given, destination, first, end)
+        yield f"linear, C number {number}: {len(given)} floats, pixels {first} to {end}", answer == number
+        yield f"linear, C number {number}: nothing is written by a refusal", number == 0 or destination == bytearray([FILL]) * length
+
+
+def linear_distance():
+    random = Random(20)
+    cases = list(islice(draw_linear(random), 2_500))
+    quick = [LINEAR.quick(*case, LINEAR.codes(*case)) for case in cases]
+    zones = [LINEAR.inner(*case) for case in cases]
+    yield "linear values: quick distances are at most 9/16 where nothing is bent, elsewhere 3/2", all(
+        distance <= LINEAR.bounds[zone] for distance, zone in zip(quick, zones))
+    yield "linear values: both zones are among them by hundreds", 300 < sum(zones) < len(zones) - 300
+    some = random.sample(range(len(cases)), 300)
+    yield "linear values: doubles and long decimals agree", all(
+        abs(float(max(LINEAR.exact(*cases[i], LINEAR.codes(*cases[i])))) - quick[i]) < 1e-9 for i in some)
+    coded = [(L, draw_pixel(random, L)) for L in draw_peaks(random, 40) for _ in range(2)]
+    yield "the exact value of lights is that of the codes that have them", all(
+        abs(x - y) < Decimal("1e-50") for L, pixel in coded for x, y in zip(
+            exact.exact_values(L, pixel), exact.linear_exact_values(L, [Fraction(exact.pq_eotf(exact.signal_of_code(D))) for D in pixel])))
+    farthest = 1_000, (0x337F_FFFF, 0x337F_FFFF, 0x3628_0000)
+    yield "a blue of 42 units beside a red and a green just short of one lies 0.5127 away, farther than any other found", (
+        LINEAR.codes(*farthest) == (64, 64, 65) and 0.5127 < LINEAR.quick(*farthest, (64, 64, 65)) < 0.5128)
+    yield "without light exact values are 64", exact.linear_exact_values(4_000, [Fraction(0)] * 3) == (64, 64, 64)
+
+
 # Voted property 3
 
 def distance():
@@ -1178,7 +1367,8 @@ LAWS = (light_table, nearest_light, light_of_codes, positions, spline_is_hermite
         rows, program_answers, measured_numbers, measured_refusals, measured_lists, measured_codes, measured_records, measure_answers,
         formats, order_of_codes, format_codes, format_limits, unread_bits, format_cards, format_titles, measured_formats, mixed_lists,
         published_ycbcr, rounding_away, ycbcr_of_codes, halves_of_luma, halves_of_chroma, code_refusals, ycbcr_rows, scene_lights, fifth_roots,
-        display_lights, pq_codes_of_lights, returned_pixels, hanging_colours, round_trip, return_refusals, return_rows, distance, greys, traps)
+        display_lights, pq_codes_of_lights, returned_pixels, hanging_colours, round_trip, return_refusals, return_rows, class_limits, every_pattern,
+        whole_lights, linear_corners, linear_pixels, linear_greys, linear_refusals, linear_rows, linear_distance, distance, greys, traps)
 
 
 def failures():

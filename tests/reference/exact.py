@@ -1,4 +1,4 @@
-"""Document 01, "The exact value", with request 06: the published formulas without tables, in long decimals.
+"""Document 01, "The exact value", with requests 06 and 11: the published formulas without tables, in long decimals.
 
 80 digits are carried; the stages lose a few of them, so that far more than 50 hold.
 Light is in cd/m2 here, signals run from 0 to 1, and 1.0 is the full scene light.
@@ -72,6 +72,15 @@ def bent_light(X, L):
 
 
 @long_decimals
+def bent_linear_light(light, L):
+    """The bent light of a brightest light that is given as itself, under the peak L; below the knee it remains what it is."""
+    if L <= 1_000:
+        return min(light, TARGET)
+    J, H, X = (pq_inverse_eotf(each) for each in (TARGET, Decimal(L), light))
+    return light if X < H and 2 * X < 3 * J - H else pq_eotf(bent_signal(X, H))
+
+
+@long_decimals
 def hlg_oetf(E):
     """HLG signal of a scene light."""
     return (3 * E).sqrt() if 12 * E <= 1 else a * (12 * E - b).ln() + c
@@ -107,3 +116,20 @@ def exact_values(L, pixel, form=TEN_NARROW):
 def distances(L, pixel, codes, form=TEN_NARROW):
     """How far each HLG code lies from its exact value, in codes."""
     return tuple(abs(code - exact) for code, exact in zip(codes, exact_values(L, pixel, form)))
+
+
+@long_decimals
+def linear_exact_values(L, lights):
+    """The exact values of three lights in cd/m2, given as fractions, under the peak L."""
+    lights = [Decimal(light.numerator) / light.denominator for light in lights]
+    brightest = max(lights)
+    if brightest == 0:
+        return (Decimal(64),) * 3
+    ratio = bent_linear_light(brightest, L) / brightest
+    return exact_values_of_lights([light * ratio for light in lights])
+
+
+@long_decimals
+def linear_distances(L, lights, codes):
+    """How far each HLG code lies from its exact value, in codes."""
+    return tuple(abs(code - exact) for code, exact in zip(codes, linear_exact_values(L, lights)))

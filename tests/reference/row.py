@@ -1,7 +1,7 @@
 """Document 01, "Cards, rows, program", with requests 04 and 06: the two row calls to HLG and the one number that C gets from them.
 
 Both make the same HLG codes and differ in what they write of them: `rgb` or `ycbcr.ycbcr`. What they test and how they write serves the
-return path too.
+return path and linear rows too.
 """
 
 from functools import lru_cache
@@ -31,6 +31,14 @@ def refuse_length(row):
         raise Refused(6)
 
 
+def refuse_placing(destination, length, first, end):
+    """Refusals 7 and 8: a destination of another length than it should have, a span that is reversed or goes past it."""
+    if len(destination) != length:
+        raise Refused(7)
+    if first > end or end > length // PIXEL_BYTES:
+        raise Refused(8)
+
+
 def rgb(codes):
     """What the RGB row call writes of a pixel: its HLG codes as they are."""
     return codes
@@ -45,10 +53,7 @@ def span_codes(L, span, form):
 def tested_span(row, destination, first, end, form=TEN_NARROW):
     """The bytes of the span from `first` up to `end`, itself not included, as a slice; refusals 6 to 9 in this order."""
     refuse_length(row)
-    if len(destination) != len(row):
-        raise Refused(7)
-    if first > end or end > len(row) // PIXEL_BYTES:
-        raise Refused(8)
+    refuse_placing(destination, len(row), first, end)
     span = slice(PIXEL_BYTES * first, PIXEL_BYTES * end)
     refuse_samples(samples_of(row[span]), form, 3 * first)
     return span
