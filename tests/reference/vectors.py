@@ -11,11 +11,12 @@ import re
 import sys
 from functools import partial
 from io import BytesIO
+from itertools import groupby
 from pathlib import Path
 from random import Random
 from typing import NamedTuple
 
-from . import returned
+from . import linear, linear_cases, returned
 from .cases import UNIT_PIXELS, cards, light_questions, measured_titles, records, row_calls, titles, ycbcr_codes
 from .content_light import Record, measure_row, measured_peak
 from .curve import position_of_code
@@ -28,7 +29,7 @@ from .pixel import convert_pixel
 from .program import convert_title
 from .refusal import Refused
 from .return_cases import colours, return_row_calls, stage_questions
-from .row import MOST_ROWS, c_number, rgb
+from .row import MOST_ROWS, c_number, rgb, samples_of
 from .sample_format import FULL_RANGE, TWELVE_BITS, format_of
 from .samples import delicate_pixels, draw_peaks, draw_pixel
 from .scene_light import scene_light
@@ -161,6 +162,59 @@ def colour_question(codes):
     return return_question(len(STAGES), codes)
 
 
+def value_answer(bits):
+    """`light`, `negative` or `too bright`, the value given and its whole light, or the refusal."""
+    return answer(lambda: (*linear.class_of(bits), linear.whole_light(bits)))
+
+
+def value_line(bits, given):
+    """`value BITS`, then the answer."""
+    return f"value {bits} {given}"
+
+
+def linear_pixel_line(L, pixel, given):
+    """`pixel peak r g b`, then the answer."""
+    return f"pixel {pixel_line(L, pixel, given)}"
+
+
+def linear_question(call, floats, L=0):
+    """The call in one byte, three floats as their 4 bytes each, high byte first, then the peak; a call on one value reads neither the others nor the peak."""
+    return bytes([call]) + b"".join(bits.to_bytes(4, "big") for bits in (*floats, 0, 0)[:3]) + words(L)
+
+
+def value_question(bits):
+    """A question about one value."""
+    return linear_question(0, [bits])
+
+
+def linear_pixel_question(L, pixel):
+    """One to the pixel call."""
+    return linear_question(1, pixel, L)
+
+
+def runs(numbers, width):
+    """Numbers as hexadecimal digits, so many each; from the seventeenth of equal ones on as COUNT*DIGITS, parts of either sort joined by +; `-` for none."""
+    parts, apart = [], True
+    for number, equal in groupby(numbers):
+        text, count = f"{number:0{width}x}", sum(1 for _ in equal)
+        if count > 16:
+            parts.append(f"{count}*{text}")
+        elif apart:
+            parts.append(text * count)
+        else:
+            parts[-1] += text * count
+        apart = count > 16
+    return "+".join(parts) or "-"
+
+
+def linear_row_line(L, row, length, first, end):
+    """`peak first end row length number destination`; row and destination as runs, of floats and of samples."""
+    destination = bytearray([FILL]) * length
+    answered = linear.c_number(L, row, destination, first, end)
+    after = "same" if destination == bytearray([FILL]) * length else runs(samples_of(destination), 4)
+    return f"{L} {first} {end} {runs(row, 8)} {length} {answered} {after}"
+
+
 def digits(data):
     """Bytes as hexadecimal digits, `-` for none, COUNT*BYTE for one byte many times."""
     if len(data) > 64 and len(set(data)) == 1:
@@ -269,6 +323,8 @@ class Answers(NamedTuple):
     format_records: dict
     stages: dict
     colours: dict
+    values: dict
+    linear_pixels: dict
 
 
 def answers():
@@ -283,7 +339,9 @@ def answers():
         {(number, L, pixel): answer(convert_pixel, L, pixel, format_of(number)) for number, L, pixel in format_pixels()},
         {case: record_answer(*case) for case in format_records()},
         {(stage, numbers): answer(STAGES[stage], numbers) for stage, numbers in stage_questions(Random(SEED))},
-        {(colour,): answer(returned.convert_pixel, colour) for colour in colours(Random(SEED))})
+        {(colour,): answer(returned.convert_pixel, colour) for colour in colours(Random(SEED))},
+        {(bits,): value_answer(bits) for bits in linear_cases.values(Random(SEED))},
+        {case: answer(linear.convert_pixel, *case) for case in linear_cases.pixels(Random(SEED))})
 
 
 def vector_files(answered):
@@ -297,6 +355,9 @@ def vector_files(answered):
     for name, written in (("rows", rgb), ("ycbcr_rows", ycbcr)):
         yield f"{FOLDER}/{name}.txt", lines(row_line(*case, written) for case in row_calls())
         yield f"{FOLDER}/formats/{name}.txt", lines(format_row_line(*case, written=written) for case in format_row_calls())
+    yield f"{FOLDER}/linear.txt", lines(line(*case, given) for line, cases in (
+        (value_line, answered.values), (linear_pixel_line, answered.linear_pixels)) for case, given in cases.items())
+    yield f"{FOLDER}/linear_rows.txt", lines(linear_row_line(*case) for case in linear_cases.row_calls(Random(SEED)))
     yield f"{FOLDER}/return/rows.txt", lines(call_line(returned.c_number, *case) for case in return_row_calls(Random(SEED)))
     for name, data in (*titles(), *format_titles()):
         yield f"{FOLDER}/convert/{name}.in", data
@@ -323,7 +384,8 @@ def programs(answered):
             ("pixel_vectors", (pixel_question, answered.pixels), (codes_question, answered.ycbcr), (format_pixel_question, answered.format_pixels)),
             ("record_vectors", (partial(record_question, 0), answered.records), (record_question, answered.format_records)),
             ("card_vectors", (card_question, answered.cards)),
-            ("return_vectors", (stage_question, answered.stages), (colour_question, answered.colours))):
+            ("return_vectors", (stage_question, answered.stages), (colour_question, answered.colours)),
+            ("linear_vectors", (value_question, answered.values), (linear_pixel_question, answered.linear_pixels))):
         yield (crate, b"".join(question(*case) for question, cases in asked for case in cases),
                "".join(given + "\n" for _, cases in asked for given in cases.values()).encode())
 
