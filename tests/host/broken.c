@@ -1,12 +1,14 @@
 /* Engines with one fault each, made of the right one: broken.py renames the
- * libraries' calls to right_row, right_ycbcr and right_return and builds this with
- * -DWRONG_ROW=NAME_OF_A_FAULT, or with -DWRONG_YCBCR=NAME where the fault's
- * heading has YCBCR_CALL, or with -DWRONG_RETURN=NAME where it has RETURN_CALL.
+ * libraries' calls to right_row, right_ycbcr, right_return and right_linear and
+ * builds this with -DWRONG_ROW=NAME_OF_A_FAULT, or with -DWRONG_YCBCR=NAME where
+ * the fault's heading has YCBCR_CALL, with -DWRONG_RETURN=NAME where it has
+ * RETURN_CALL, with -DWRONG_LINEAR=NAME where it has LINEAR_CALL.
  */
 #include "hlg_pq.h"
 #include "pq_hlg.h"
 
 #include <math.h>
+#include <string.h>
 
 #ifndef WRONG_ROW
 #define WRONG_ROW right_row
@@ -17,16 +19,22 @@
 #ifndef WRONG_RETURN
 #define WRONG_RETURN right_return
 #endif
+#ifndef WRONG_LINEAR
+#define WRONG_LINEAR right_linear
+#endif
 
 #define CALL uint64_t peak, uint64_t format, const uint8_t *row, size_t row_len, uint8_t *dst, size_t dst_len, size_t first, size_t end
 #define YCBCR_CALL CALL
 #define GIVEN peak, format, row, row_len, dst, dst_len, first, end
 #define RETURN_CALL const uint8_t *row, size_t row_len, uint8_t *dst, size_t dst_len, size_t first, size_t end
 #define RETURNED row, row_len, dst, dst_len, first, end
+#define LINEAR_CALL uint64_t peak, const float *row, size_t row_len, uint8_t *dst, size_t dst_len, size_t first, size_t end
+#define LINEAR peak, row, row_len, dst, dst_len, first, end
 
 uint64_t right_row(CALL);
 uint64_t right_ycbcr(CALL);
 uint64_t right_return(RETURN_CALL);
+uint64_t right_linear(LINEAR_CALL);
 
 static int peak_sound(uint64_t peak)
 {
@@ -496,9 +504,312 @@ static uint64_t gamma_by_component(RETURN_CALL)
     return by_formula(RETURNED, changed);
 }
 
+/* Faults of the call on linear values. */
+
+/* 7 is tested before 15. */
+static uint64_t destination_before_floats(LINEAR_CALL)
+{
+    return peak_sound(peak) && dst_len != 2 * row_len ? 7 : right_linear(LINEAR);
+}
+
+/* 8 is tested before 7. */
+static uint64_t span_before_linear_destination(LINEAR_CALL)
+{
+    uint64_t number = right_linear(LINEAR);
+    return number == 7 && (first > end || end > row_len / 3) ? 8 : number;
+}
+
+/* 15 is tested before 5. */
+static uint64_t floats_before_peak(LINEAR_CALL)
+{
+    return row_len % 3 || row_len > 24576 ? 15 : right_linear(LINEAR);
+}
+
+/* 7 asks for as many bytes as floats. */
+static uint64_t destination_counted_in_floats(LINEAR_CALL)
+{
+    uint64_t number = right_linear(LINEAR);
+    return number != 5 && number != 15 && dst_len != row_len ? 7 : number;
+}
+
+/* A row may have as many floats as one of codes has bytes. */
+static uint64_t most_floats_as_bytes(LINEAR_CALL)
+{
+    uint64_t number = right_linear(LINEAR);
+    return number == 15 && row_len % 3 == 0 && row_len <= 49152 ? dst_len != 2 * row_len ? 7 : 0 : number;
+}
+
+/* The product 3 * end is tested instead of end, and wraps round. */
+static uint64_t linear_span_wraps(LINEAR_CALL)
+{
+    uint64_t number = right_linear(LINEAR);
+    return number == 8 && first <= end && 3 * end <= row_len ? 0 : number;
+}
+
+/* The place of 16 is that of its pixel. */
+static uint64_t place_in_pixels(LINEAR_CALL)
+{
+    uint64_t number = right_linear(LINEAR);
+    return number % 256 == 16 ? 16 + 256 * (number / 256 / 3) : number;
+}
+
+/* The place is counted from the span's first float. */
+static uint64_t place_in_linear_span(LINEAR_CALL)
+{
+    uint64_t number = right_linear(LINEAR);
+    return number % 256 == 16 ? number - 256 * 3 * first : number;
+}
+
+/* Values outside the span are looked at. */
+static uint64_t whole_row_looked_at(LINEAR_CALL)
+{
+    uint64_t number = right_linear(LINEAR);
+    for (size_t i = 0; !number && i < row_len; i++)
+        if (!isfinite(row[i]))
+            return 16 + 256 * (uint64_t)i;
+    return number;
+}
+
+static uint64_t refused_linear_call_writes(LINEAR_CALL)
+{
+    uint64_t number = right_linear(LINEAR);
+    if (number % 256 == 16)
+        dst[6 * first] ^= 1;
+    return number;
+}
+
+static uint64_t last_linear_pixel_left_out(LINEAR_CALL)
+{
+    return right_linear(peak, row, row_len, dst, dst_len, first, end > first ? end - 1 : end);
+}
+
+/* The byte after the span is cleared. */
+static uint64_t byte_after_linear_span(LINEAR_CALL)
+{
+    uint64_t number = right_linear(LINEAR);
+    if (!number && 6 * end < dst_len)
+        dst[6 * end] = 0;
+    return number;
+}
+
+/* A float is read after the row. */
+static uint64_t reads_after_floats(LINEAR_CALL)
+{
+    const volatile float *after = row + row_len;
+    if (row_len && row_len <= 24576)
+        (void)*after;
+    return right_linear(LINEAR);
+}
+
+static uint64_t low_byte_first(LINEAR_CALL)
+{
+    uint64_t number = right_linear(LINEAR);
+    for (size_t i = 3 * first; !number && i < 3 * end; i++) {
+        uint8_t high = dst[2 * i];
+        dst[2 * i] = dst[2 * i + 1];
+        dst[2 * i + 1] = high;
+    }
+    return number;
+}
+
+/* A row with other values, for faults of how they are read. */
+static float other_values[24576];
+
+/* Converts a row of which each value in the span is made another one; a call that the right one refuses before it looks at values is
+   left to it. */
+static uint64_t convert_values(LINEAR_CALL, float (*made)(float))
+{
+    if (row_len > sizeof other_values / sizeof *other_values || first > end || end > row_len / 3)
+        return right_linear(LINEAR);
+    for (size_t i = 3 * first; i < 3 * end; i++)
+        other_values[i] = made(row[i]);
+    return right_linear(peak, other_values, row_len, dst, dst_len, first, end);
+}
+
+static float no_number_to_black(float x)
+{
+    return isnan(x) ? 0 : x;
+}
+
+static uint64_t no_number_counted(LINEAR_CALL)
+{
+    return convert_values(LINEAR, no_number_to_black);
+}
+
+static float infinity_to_limit(float x)
+{
+    return isinf(x) ? copysignf(20000, x) : x;
+}
+
+/* Infinite values count as the limits do. */
+static uint64_t infinity_counted(LINEAR_CALL)
+{
+    return convert_values(LINEAR, infinity_to_limit);
+}
+
+static float negative_to_nan(float x)
+{
+    return x < 0 ? (float)NAN : x;
+}
+
+static uint64_t negative_refused(LINEAR_CALL)
+{
+    return convert_values(LINEAR, negative_to_nan);
+}
+
+static float too_bright_to_nan(float x)
+{
+    return x > 10000 ? (float)NAN : x;
+}
+
+static uint64_t too_bright_refused(LINEAR_CALL)
+{
+    return convert_values(LINEAR, too_bright_to_nan);
+}
+
+static float magnitude(float x)
+{
+    return fabsf(x);
+}
+
+/* Negative values count by their magnitude. */
+static uint64_t sign_ignored(LINEAR_CALL)
+{
+    return convert_values(LINEAR, magnitude);
+}
+
+static float cut_lower(float x)
+{
+    return isfinite(x) && x > 9984 ? 9984 : x;
+}
+
+/* 10,000 cd/m2 is cut lower, and what is above it too. */
+static uint64_t cut_below_the_limit(LINEAR_CALL)
+{
+    return convert_values(LINEAR, cut_lower);
+}
+
+static float too_bright_to_black(float x)
+{
+    return isfinite(x) && x > 10000 ? 0 : x;
+}
+
+/* Too bright values count as 0, as negative ones do. */
+static uint64_t too_bright_as_black(LINEAR_CALL)
+{
+    return convert_values(LINEAR, too_bright_to_black);
+}
+
+static float nearest_unit(float x)
+{
+    return fabsf(x) < 1 ? rintf(x * 16777216) / 16777216 : x;      /* from 1 on every float is a whole number of units */
+}
+
+/* The product is rounded to the nearest unit. */
+static uint64_t product_rounded(LINEAR_CALL)
+{
+    return convert_values(LINEAR, nearest_unit);
+}
+
+static float next_unit(float x)
+{
+    return fabsf(x) < 1 ? ceilf(x * 16777216) / 16777216 : x;
+}
+
+static uint64_t product_rounded_up(LINEAR_CALL)
+{
+    return convert_values(LINEAR, next_unit);
+}
+
+static float coarser_unit(float x)
+{
+    return fabsf(x) < 16 ? floorf(x * 1048576) / 1048576 : x;
+}
+
+/* Light is counted in sixteen times the unit. */
+static uint64_t coarser_light(LINEAR_CALL)
+{
+    return convert_values(LINEAR, coarser_unit);
+}
+
+static float half_precision(float x)
+{
+    uint32_t bits;
+    memcpy(&bits, &x, sizeof bits);
+    bits &= ~(uint32_t)0x1FFF;          /* ten bits of the fraction remain */
+    memcpy(&x, &bits, sizeof bits);
+    return x;
+}
+
+/* Values are cut to the precision of 16-bit floats. */
+static uint64_t values_of_half_precision(LINEAR_CALL)
+{
+    return convert_values(LINEAR, half_precision);
+}
+
+/* HLG codes of three lights in doubles, the curve at the brightest light's signal and so many positions above it. */
+static void linear_codes(double peak, double above, const float *pixel, int codes[3])
+{
+    static const double c1 = 0.8359375, c2 = 18.8515625, c3 = 18.6875, m1 = 0.1593017578125, m2 = 78.84375;
+    double lights[3], brightest = 0, signals[3], of[3] = { 1000, peak, 0 }, luminance = 0;
+    for (int i = 0; i < 3; i++) {
+        lights[i] = fmin(fmax(pixel[i], 0), 10000);
+        brightest = fmax(brightest, lights[i]);
+    }
+    of[2] = brightest;
+    for (int i = 0; i < 3; i++) {
+        double w = pow(of[i] / 10000, m1);
+        signals[i] = pow((c1 + c2 * w) / (1 + c3 * w), m2);
+    }
+    double J = signals[0], H = signals[1], X = fmin(signals[2] + above / 897024, H), bent = fmin(brightest, 1000);
+    if (peak > 1000) {
+        double root = pow(J - 4 * (H - X) * (H - X) * (H - X) / (27 * (H - J) * (H - J)), 1 / m2);
+        bent = 2 * X < 3 * J - H ? brightest : 10000 * pow((root - c1) / (c2 - c3 * root), 1 / m1);
+    }
+    for (int i = 0; i < 3; i++) {
+        lights[i] *= brightest > 0 ? bent / brightest / 1000 : 0;
+        luminance += RIGHT.weights[i] * lights[i];
+    }
+    for (int i = 0; i < 3; i++) {
+        double E = lights[i] > 0 ? lights[i] * pow(luminance, -1.0 / 6) : 0;
+        codes[i] = (int)(64.5 + 876 * (E <= 1.0 / 12 ? sqrt(3 * E) : 0.17883277 * log(12 * E - 0.28466892) + 0.55991073));
+    }
+}
+
+/* The right codes, moved by as much as the curve taken a few positions above moves those in doubles. */
+static uint64_t by_position(LINEAR_CALL, double above)
+{
+    uint64_t number = right_linear(LINEAR);
+    for (size_t p = first; !number && p < end; p++) {
+        int were[3], are[3];
+        linear_codes((double)peak, 0, row + 3 * p, were);
+        linear_codes((double)peak, above, row + 3 * p, are);
+        for (int i = 0; i < 3; i++)
+            put_sample(dst + 6 * p, i, (unsigned)((int)sample(dst + 6 * p, i) + are[i] - were[i]));
+    }
+    return number;
+}
+
+/* The curve takes the position after the brightest light's. */
+static uint64_t next_position(LINEAR_CALL)
+{
+    return by_position(LINEAR, 1);
+}
+
+/* It takes a position half a table entry lower. */
+static uint64_t position_half_an_entry_low(LINEAR_CALL)
+{
+    return by_position(LINEAR, -128);
+}
+
 uint64_t pq_hlg_convert_row(CALL)
 {
     return WRONG_ROW(GIVEN);
+}
+
+uint64_t pq_hlg_convert_row_linear(LINEAR_CALL)
+{
+    return WRONG_LINEAR(LINEAR);
 }
 
 uint64_t pq_hlg_convert_row_ycbcr(CALL)

@@ -3,9 +3,9 @@
  *
  * Standard input: calls one after the other. A call is seven 64-bit numbers in
  * the machine's order (struct call), then the row's bytes; bits of its options
- * choose between the RGB call, the Y'CbCr call and that of the return path, which
- * takes neither peak nor format. Standard output:
- * for each call the number, what was harmed (0 if nothing), then every byte of
+ * choose between the RGB call, the Y'CbCr call, that of the return path, which
+ * takes neither peak nor format, and that on linear values, which takes no format
+ * and counts its row in floats of the machine's order. Standard output: for each call the number, what was harmed (0 if nothing), then every byte of
  * the destination. A row or destination longer than LONGEST has no bytes in
  * the stream: its pointer leads to memory that must not be touched.
  *
@@ -22,10 +22,10 @@
 #include <string.h>
 #include <sys/mman.h>
 
-enum { LONGEST = 65536, TRAP = 65536, GUARD = 0x5A };
+enum { LONGEST = 102400, TRAP = 65536, GUARD = 0x5A };      /* the longest is a whole number of pages, so that floats lie as they must */
 
 /* Bits of `options`; its lowest eight are the destination's first byte. */
-enum { ROW_AT_START = 256, DST_AT_START = 512, ROW_NULL = 1024, DST_NULL = 2048, YCBCR = 4096, RETURN = 8192 };
+enum { ROW_AT_START = 256, DST_AT_START = 512, ROW_NULL = 1024, DST_NULL = 2048, YCBCR = 4096, RETURN = 8192, LINEAR = 16384 };
 
 /* Bits of `harm`. */
 enum { ROW_CHANGED = 1, GUARD_OF_ROW = 2, GUARD_OF_DST = 4 };
@@ -106,6 +106,8 @@ static int guards_stand(uint8_t *const *block, const uint8_t *at, size_t bytes)
 /* The call that the options choose. */
 static uint64_t convert(const struct call *call, const uint8_t *row, uint8_t *dst)
 {
+    if (call->options & LINEAR)
+        return pq_hlg_convert_row_linear(call->peak, (const float *)(const void *)row, call->row_len, dst, call->dst_len, call->first, call->end);
     if (call->options & RETURN)
         return hlg_pq_convert_row(row, call->row_len, dst, call->dst_len, call->first, call->end);
     return (call->options & YCBCR ? pq_hlg_convert_row_ycbcr : pq_hlg_convert_row)(
@@ -130,15 +132,16 @@ int main(void)
     struct call call;
 
     while (read_whole(&call, sizeof call)) {
-        int row_here = call.row_len <= LONGEST, dst_here = call.dst_len <= LONGEST;
+        size_t row_bytes = call.row_len * (call.options & LINEAR ? sizeof(float) : 1);
+        int row_here = row_bytes <= LONGEST, dst_here = call.dst_len <= LONGEST;
         uint8_t *row = nowhere, *dst = nowhere;
         struct answer answer = { 0, 0 };
 
         if (row_here) {
-            row = place(&row_block, call.row_len, !!(call.options & ROW_AT_START));
-            if (!read_whole(row, call.row_len))
+            row = place(&row_block, row_bytes, !!(call.options & ROW_AT_START));
+            if (!read_whole(row, row_bytes))
                 stop("a call is cut short");
-            memcpy(kept, row, call.row_len);
+            memcpy(kept, row, row_bytes);
         }
         if (dst_here) {
             dst = place(&dst_block, call.dst_len, !!(call.options & DST_AT_START));
@@ -147,9 +150,9 @@ int main(void)
         }
         answer.number = convert(&call, call.options & ROW_NULL && !call.row_len ? NULL : row,
                                 call.options & DST_NULL && !call.dst_len ? NULL : dst);
-        if (row_here && memcmp(kept, row, call.row_len))
+        if (row_here && memcmp(kept, row, row_bytes))
             answer.harm |= ROW_CHANGED;
-        if (row_here && !guards_stand(&row_block, row, call.row_len))
+        if (row_here && !guards_stand(&row_block, row, row_bytes))
             answer.harm |= GUARD_OF_ROW;
         if (dst_here && !guards_stand(&dst_block, dst, call.dst_len))
             answer.harm |= GUARD_OF_DST;

@@ -18,31 +18,33 @@ from tests.reference.curve import bend_code
 from tests.reference.row import c_number, pixels_of, rgb, samples_of
 from tests.reference.sample_format import FORMATS, TEN_NARROW
 from tests.reference.samples import MARKED_PEAKS, draw_peaks, draw_pixel
-from tests.reference.survey import bent_light, draw_case
+from tests.reference.survey import LINEAR, bent_light, coded, draw_case
 from tests.reference.ycbcr import luma_sum, ycbcr
 
-from . import greys, return_path
+from . import greys, linear_rows, return_path
 from .damaged import calls_of_lengths, draw_damaged, draw_format, draw_options, each_refusal, named_calls
 from .distances import Distances
 from .engine import DELIVERIES, HARM, LIBRARY, RETURN_LIBRARY, YCBCR, Broken, Call, ask, build, reachable
 
 BATCH = 500                              # calls of one run of the C program
 ROW_PIXELS = 100                         # pixels drawn for one peak
-RAMP = bytes(range(256)) * 300           # what destinations hold before a call
+RAMP = bytes(range(256)) * 401           # what destinations hold before a call
 GREYS = [code.to_bytes(2, "big") * 3 for code in range(1_020)]                         # a grey's pixel in RGB
 GREYS_YCBCR = [code.to_bytes(2, "big") + b"\2\0\2\0" for code in range(1_020)]         # and in Y'CbCr, both chroma 512
 
 FULL = {"random": 1_000_000, "adversarial": 500_000, "greys": 10_000, "damaged": 150_000,
         "lengths": 49_159, "sanitizer": 5_000, "valgrind": 400, "sampled": 2_000,
-        "return_delicate": 500_000, "round_trip": 1_000_000, "return_lengths": 49_159, "return_damaged": 75_000}
+        "return_delicate": 500_000, "round_trip": 1_000_000, "return_lengths": 49_159, "return_damaged": 75_000,
+        "linear_random": 500_000, "linear_delicate": 500_000, "linear_lengths": 24_580, "linear_damaged": 75_000}
 SHORT = {"random": 100_000, "adversarial": 60_000, "greys": 500, "damaged": 25_000,
          "lengths": 1_000, "sanitizer": 1_000, "valgrind": 200, "sampled": 200,
-         "return_delicate": 50_000, "round_trip": 50_000, "return_lengths": 500, "return_damaged": 10_000}
+         "return_delicate": 50_000, "round_trip": 50_000, "return_lengths": 500, "return_damaged": 10_000,
+         "linear_random": 50_000, "linear_delicate": 50_000, "linear_lengths": 500, "linear_damaged": 10_000}
 # Of each format beside ten-bit narrow range so much of the above; of twelve-bit greys, four times as many a peak, a quarter of that.
 SHARE = {"random": 1 / 4, "adversarial": 1 / 4, "greys": 1 / 5}
-RETURN_SHARE = 4                         # of the calls that memory is watched over, one in so many more is the return path's
+RETURN_SHARE = 4                         # of the calls that memory is watched over, one in so many more is the return path's, and one on linear values
 PARTS = ("random", "adversarial", "greys", "lengths", "damaged", "return_delicate", "round_trip", "return_lengths", "return_damaged",
-         "sanitizer", "valgrind")
+         "linear_random", "linear_delicate", "linear_lengths", "linear_damaged", "sanitizer", "valgrind")
 
 
 class Difference(Exception):
@@ -77,7 +79,9 @@ def destination_before(call):
 def wanted_answer(call):
     """Number and destination by the second implementation."""
     destination = destination_before(call)
-    if call.returns:
+    if call.linear:
+        number = linear_rows.wanted_number(call, destination)
+    elif call.returns:
         number = return_path.wanted_number(call, destination)
     else:
         number = c_number(call.peak, call.format, call.row, destination, call.first, call.end, ycbcr if call.in_ycbcr else rgb)
@@ -89,8 +93,10 @@ def first_difference(call, given, wanted):
     at = next(i for i, pair in enumerate(zip(given, wanted)) if pair[0] != pair[1])
     pixel = at // 6
     words = f"byte {at} is {given[at]}, should be {wanted[at]}"
-    if call.first <= pixel < call.end <= len(call.row) // 6:
-        source, got, due = (tuple(samples_of(data[6 * pixel:6 * pixel + 6])) for data in (call.row, given, wanted))
+    if call.first <= pixel < call.end <= call.dst_len // 6:
+        got, due = (tuple(samples_of(data[6 * pixel:6 * pixel + 6])) for data in (given, wanted))
+        source = (tuple(f"{bits:08x}" for bits in call.row[3 * pixel:3 * pixel + 3]) if call.linear
+                  else tuple(samples_of(call.row[6 * pixel:6 * pixel + 6])))
         words += f"; pixel {pixel}, {source}, became {got}, should be {due}"
     return words
 
@@ -176,7 +182,7 @@ def compare_pixels(part, draw, random, count, form, engine, distances):
             progress.step(call.end)
             continue
         for pixel, codes in zip(*(pixels_of(samples_of(data)) for data in (call.row, answer.destination))):
-            distances.add(call.peak, pixel, codes, form)
+            distances.add(call.peak, pixel, codes, coded(form))
             halves += luma_is_half(codes)
         bend_code.cache_clear()
         bent_light.cache_clear()
@@ -214,7 +220,7 @@ def compare_greys(random, count, form, engine, distances):
                 measured = codes
                 for D in form.nominal:
                     code = codes[D - taken[0]]
-                    distances.add(call.peak, (D, D, D), (code, code, code), form)
+                    distances.add(call.peak, (D, D, D), (code, code, code), coded(form))
                 bent_light.cache_clear()
     progress.line(", no difference")
     return pixels
@@ -303,6 +309,35 @@ def compare_return_calls(part, calls, count, engine, sure=False):
     return pixels
 
 
+def compare_linear_pixels(part, calls, count, engine, distances):
+    """Rows of linear values, with the distances of their codes. Returns the pixels converted."""
+    progress, pixels, refused = Progress(part, count, "pixels of linear values"), 0, 0
+    for call, answer in compared(engine, calls):
+        progress.step(call.end)
+        if answer.number:
+            refused += 1
+            continue
+        span = slice(call.first, call.end)
+        for pixel, codes in zip(pixels_of(call.row)[span], pixels_of(samples_of(answer.destination))[span]):
+            distances.add(call.peak, pixel, codes, LINEAR)
+        pixels += call.end - call.first
+    progress.line(f", no difference; {refused} rows refused")
+    return pixels
+
+
+def compare_linear_calls(part, calls, count, engine, sure=False):
+    """Calls on linear values that may be refused; each refusal must have occurred if that is sure. Returns the pixels converted."""
+    progress, seen, pixels = Progress(f"{part}, linear values", count, "calls"), Counter(), 0
+    for call, answer in compared(engine, calls):
+        seen[answer.number % 256] += 1
+        pixels += 0 if answer.number else call.end - call.first
+        progress.step(1)
+    progress.line(", no difference; accepted {}, refused {}".format(seen[0], ", ".join(f"{number}: {seen[number]}" for number in (5, 15, 7, 8, 16))))
+    if sure and set(seen) != {0, 5, 15, 7, 8, 16}:
+        raise Difference(f"{part}: not every refusal of the call on linear values occurred, or another one did: {sorted(seen)}")
+    return pixels
+
+
 def watched_by_valgrind(program):
     """A command whose reads and writes outside the heap's blocks make it fail."""
     if not shutil.which("valgrind"):
@@ -321,13 +356,23 @@ def compare_return(part, random, count, engine):
     return compare_return_calls(part, return_path.damaged_calls(random, count), count, engine, sure=True)
 
 
+def compare_linear(part, random, count, engine, distances=None):
+    """A part on linear values. Returns its pixels."""
+    if part in ("linear_random", "linear_delicate"):
+        draw = linear_rows.random_rows if part == "linear_random" else linear_rows.delicate_rows
+        return compare_linear_pixels(part, draw(random, count, ROW_PIXELS), count, engine, distances)
+    if part == "linear_lengths":
+        return compare_linear_calls(part, linear_rows.calls_of_lengths(random, count), count, engine)
+    return compare_linear_calls(part, linear_rows.damaged_calls(random, count), count, engine, sure=True)
+
+
 def run(sizes, seed, parts, library, return_library=RETURN_LIBRARY):
     """All parts; prints what was compared. True if demand 3's bounds hold as well."""
     def built(kind):
         return build(kind, library, return_library=return_library)
     engine = [built("pages")]
     distances = Distances(max(1, (sizes["random"] + sizes["adversarial"]) // sizes["sampled"]))
-    pixels, calls, returned, return_calls = Counter(), 0, 0, 0
+    pixels, calls, returned, return_calls, linear, linear_calls = Counter(), 0, 0, 0, 0, 0
     for part in parts:
         size, random = sizes[part], Random(f"{part} {seed}")
         if part in ("random", "adversarial"):
@@ -341,6 +386,9 @@ def run(sizes, seed, parts, library, return_library=RETURN_LIBRARY):
         elif part.startswith("return") or part == "round_trip":
             returned += compare_return(part, random, size, engine)
             return_calls += size if part in ("return_lengths", "return_damaged") else 0
+        elif part.startswith("linear"):
+            linear += compare_linear(part, random, size, engine, distances)
+            linear_calls += size if part in ("linear_lengths", "linear_damaged") else 0
         else:
             calls += size
             if part == "lengths":
@@ -352,9 +400,12 @@ def run(sizes, seed, parts, library, return_library=RETURN_LIBRARY):
                 pixels += compare_damaged(part, random, size, watched)
                 returned += compare_return(part, random, size // RETURN_SHARE, watched)
                 return_calls += size // RETURN_SHARE
+                linear += compare_linear(part, random, size // RETURN_SHARE, watched)
+                linear_calls += size // RETURN_SHARE
     sound = distances.report() if distances.count else True
     print(f"{pixels[False]:,} pixels in RGB, {pixels[True]:,} in Y'CbCr and {calls:,} calls of either, damaged or not, "
-          f"{returned:,} pixels and {return_calls:,} such calls of the return path compared: every number and byte equal")
+          f"{returned:,} pixels and {return_calls:,} such calls of the return path, {linear:,} pixels and {linear_calls:,} such calls on linear values "
+          "compared: every number and byte equal")
     return sound
 
 

@@ -85,9 +85,13 @@ def spoil_destination(random, call):
 
 def spoil_span(random, call):
     """First above end, end above the pixels, or either near the largest number."""
-    pixels, near = len(call["row"]) // PIXEL_BYTES, TOP - random.randint(0, 12)
-    first, end = call["first"], call["end"]
-    call["first"], call["end"] = random.choice((
+    call["first"], call["end"] = wrong_span(random, call["first"], call["end"], len(call["row"]) // PIXEL_BYTES)
+
+
+def wrong_span(random, first, end, pixels):
+    """Such a span, made of a sound one of a row of so many pixels."""
+    near = TOP - random.randint(0, 12)
+    return random.choice((
         (end + 1, end), (end + random.randint(1, 9), first), (first, pixels + 1), (pixels + 1, pixels + 1),
         (pixels + 1, pixels), (first, near), (near, near), (near, end), (near, TOP), (TOP, TOP), (TOP, 0),
         (0, TOP), (first, random.choice(WRAPPING)), (random.choice(WRAPPING), random.choice(WRAPPING)),

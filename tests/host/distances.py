@@ -6,44 +6,42 @@ others are measured again in long decimals, which also shows how far the doubles
 
 from heapq import heappush, heappushpop
 
-from tests.reference import exact
-from tests.reference.sample_format import FORMATS, TEN_NARROW
-from tests.reference.survey import bound, distance_of, in_inner_zone
+from tests.reference.survey import KINDS, LINEAR
 
-KEPT = 30                                # farthest pixels measured again in each zone of each format
+KEPT = 30                                # farthest pixels measured again in each zone of each kind: the codes of a format, or linear values
 
 
 class Distances:
-    """Collects answers; `report` gives the worst of each zone of each format."""
+    """Collects answers; `report` gives the worst of each zone of each kind."""
 
     def __init__(self, sample_every):
         self.count = 0
         self.sample_every = sample_every
         self.sample = []
-        self.kept = {form: {True: [], False: []} for form in FORMATS}       # by the inner zone, and what lies outside it
+        self.kept = {kind.name: {True: [], False: []} for kind in KINDS}       # by the inner zone, and what lies outside it
 
-    def add(self, L, pixel, codes, form=TEN_NARROW):
+    def add(self, L, pixel, codes, kind):
         """One accepted pixel and the codes that the engine gave."""
         self.count += 1
-        distance, zones = distance_of(L, pixel, codes, form), self.kept[form]
-        found = distance, L, pixel, codes, form
+        distance, zones = kind.quick(L, pixel, codes), self.kept[kind.name]
+        found = distance, L, pixel, codes
         if self.count % self.sample_every == 0:
-            self.sample.append(found)
+            self.sample.append((kind, found))
         if any(len(kept) < KEPT or distance > kept[0][0] for kept in zones.values()):
-            kept = zones[in_inner_zone(L, pixel, form)]
+            kept = zones[kind.inner(L, pixel)]
             if len(kept) < KEPT:
                 heappush(kept, found)
             else:
                 heappushpop(kept, found)
 
-    def worst(self, form, inner):
+    def worst(self, kind, inner):
         """The largest distance of a zone in long decimals, with its peak, pixel and codes."""
-        return max((max(exact.distances(*found, form)), *found) for _, *found, form in self.kept[form][inner])
+        return max((max(kind.exact(*found)), *found) for _, *found in self.kept[kind.name][inner])
 
     def error_of_doubles(self):
         """The largest difference between both measures, over the sample and what was kept."""
-        return max(abs(float(max(exact.distances(*found))) - distance)
-                   for distance, *found in (*self.sample, *(found for zones in self.kept.values() for kept in zones.values() for found in kept)))
+        kept = [(kind, found) for kind in KINDS for found in (*self.kept[kind.name][True], *self.kept[kind.name][False])]
+        return max(abs(float(max(kind.exact(*found))) - distance) for kind, (distance, *found) in (*self.sample, *kept))
 
     def report(self):
         """Prints the worst of each zone; False if one is farther than is promised."""
@@ -51,9 +49,10 @@ class Distances:
         print(f"distances: {self.count:,} pixels in doubles, {len(self.sample):,} of them and the farthest "
               f"in 80 digits; doubles err by {error:.1e}")
         sound = error < 1e-6
-        for form, inner in ((form, inner) for form in FORMATS for inner in (True, False) if self.kept[form][inner]):
-            distance, L, pixel, codes = self.worst(form, inner)
+        for kind, inner in ((kind, inner) for kind in KINDS for inner in (True, False) if self.kept[kind.name][inner]):
+            distance, L, pixel, codes = self.worst(kind, inner)
             zone = "unbent or a low peak" if inner else "others"
-            print(f"distances: {form}, {zone}, held to {bound(form)}: worst {distance:.9f} at peak {L}, pixel {pixel}, codes {codes}")
-            sound &= distance <= bound(form)
+            given = tuple(f"{bits:08x}" for bits in pixel) if kind is LINEAR else pixel
+            print(f"distances: {kind.name}, {zone}, held to {kind.bounds[inner]}: worst {distance:.9f} at peak {L}, pixel {given}, codes {codes}")
+            sound &= distance <= kind.bounds[inner]
         return sound

@@ -17,8 +17,8 @@ LIBRARY = ROOT / "target/staticlib/libpq_hlg.a"
 RETURN_LIBRARY = ROOT / "target/staticlib/libhlg_pq.a"
 TARGET = ROOT / "target"
 
-LONGEST = 65_536               # longer rows and destinations cannot be touched; as in compare.c
-ROW_AT_START, DST_AT_START, ROW_NULL, DST_NULL, YCBCR, RETURN = 256, 512, 1_024, 2_048, 4_096, 8_192
+LONGEST = 102_400              # bytes; longer rows and destinations cannot be touched; as in compare.c
+ROW_AT_START, DST_AT_START, ROW_NULL, DST_NULL, YCBCR, RETURN, LINEAR = 256, 512, 1_024, 2_048, 4_096, 8_192, 16_384
 DELIVERIES = ("RGB", "Y'CbCr")
 HARM = {1: "the row was changed", 2: "bytes beside the row were changed",
         4: "bytes beside the destination were changed"}
@@ -32,12 +32,13 @@ FLAGS = {
 
 
 class Call(NamedTuple):
-    """One row call: to HLG, in Y'CbCr if the options have that bit, else in RGB; or that of the return path, which takes neither peak nor format.
+    """One row call: to HLG, in Y'CbCr if the options have that bit, else in RGB; or that of the return path, which takes neither peak nor format; or that
+    on linear values, which takes no format and whose row is an array of 32-bit patterns.
 
     A destination's byte i holds options + i before it, modulo 256.
     """
     peak: int
-    row: bytes                 # or a range, whose length counts alone
+    row: bytes                 # or an array of floats' patterns; or a range, whose length counts alone
     dst_len: int
     first: int
     end: int
@@ -55,13 +56,24 @@ class Call(NamedTuple):
         return bool(self.options & RETURN)
 
     @property
+    def linear(self):
+        """Whether it is the call on linear values."""
+        return bool(self.options & LINEAR)
+
+    @property
+    def row_bytes(self):
+        """How long the row is in bytes."""
+        return len(self.row) * (4 if self.linear else 1)
+
+    @property
     def form(self):
         """Depth and range of its samples."""
         return format_of(self.format)
 
     def __str__(self):
-        name = "return" if self.returns else f"{DELIVERIES[self.in_ycbcr]}, peak {self.peak}, format {self.format:#x}"
-        return (f"{name}, row of {len(self.row)} bytes, destination of {self.dst_len}, "
+        name = (f"linear, peak {self.peak}" if self.linear else "return" if self.returns
+                else f"{DELIVERIES[self.in_ycbcr]}, peak {self.peak}, format {self.format:#x}")
+        return (f"{name}, row of {len(self.row)} {'floats' if self.linear else 'bytes'}, destination of {self.dst_len}, "
                 f"first {self.first}, end {self.end}, options {self.options:#x}")
 
 
@@ -103,7 +115,7 @@ def reachable(length):
 def bytes_of(call):
     """A call in the stream."""
     head = CALL.pack(call.peak, call.format, len(call.row), call.dst_len, call.first, call.end, call.options)
-    return head + call.row if reachable(len(call.row)) else head
+    return head + bytes(call.row) if reachable(call.row_bytes) else head
 
 
 def answers_in(stream, calls):

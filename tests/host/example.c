@@ -1,10 +1,12 @@
 /* SPDX-License-Identifier: MIT */
 /* The row calls from C: a grey of 1,004 cd/m2 under a peak of 1,000 and a red of the same code, as RGB and as Y'CbCr, then a
-   refused sample, then the grey and the red of a twelve-bit source, first in narrow and then in full range.
+   refused sample, then the grey and the red of a twelve-bit source, first in narrow and then in full range, then linear values: a
+   grey and a red of 1,000 cd/m2, and a refused one.
      rt staticlib pq_hlg
      gcc -O2 -Wall -Werror -Iinclude tests/host/example.c target/staticlib/libpq_hlg.a -o target/host/example_c
      target/host/example_c */
 #include <inttypes.h>
+#include <math.h>
 #include <stdio.h>
 
 #include "pq_hlg.h"
@@ -52,5 +54,12 @@ int main(void) {
     put_pixels(row, 3079, 0);
     number = pq_hlg_convert_row(1000, PQ_HLG_TWELVE_BITS | PQ_HLG_FULL_RANGE, row, sizeof row, dst, sizeof dst, 0, 2);
     print_answer(number, dst);
+
+    float values[6] = {1000, 1000, 1000, 1000, 0, -1};      /* what is below 0 counts as 0 */
+    number = pq_hlg_convert_row_linear(1000, values, 6, dst, sizeof dst, 0, 2);
+    print_answer(number, dst);
+    values[4] = NAN;
+    number = pq_hlg_convert_row_linear(1000, values, 6, dst, sizeof dst, 1, 2);
+    printf("refused %" PRIu64 " at value %" PRIu64 "\n", number % 256, number / 256);
     return 0;
 }

@@ -39,4 +39,12 @@ fn main() {
         let answer = pq_hlg::convert_row(Source { twelve_bits: true, full_range, ..source }, &row, &mut dst, 0, 2);
         print_answer(answer, &dst);
     }
+
+    let mut values = [1000.0, 1000.0, 1000.0, 1000.0, 0.0, -1.0]; // what is below 0 counts as 0
+    let answer = pq_hlg::convert_row_linear(1000, &values, &mut dst, 0, 2);
+    print_answer(answer, &dst);
+    values[4] = f32::NAN;
+    if let Err(refusal) = pq_hlg::convert_row_linear(1000, &values, &mut dst, 1, 2) {
+        println!("refused {} at value {}", refusal.number, refusal.place);
+    }
 }

@@ -1,7 +1,7 @@
 // SPDX-License-Identifier: MIT
-//! The row calls for Rust: safe functions over the static library's two symbols, version 2 of its interface (PQ_HLG_ABI in include/pq_hlg.h).
+//! The row calls for Rust: safe functions over the static library's three symbols, version 2 of its interface (PQ_HLG_ABI in include/pq_hlg.h).
 
-/// What both symbols take: peak, format, row and its length, destination and its length, first, end.
+/// What the symbols of PQ rows take: peak, format, row and its length, destination and its length, first, end.
 type RowCall = unsafe extern "C" fn(u64, u64, *const u8, usize, *mut u8, usize, usize, usize) -> u64;
 
 extern "C" {
@@ -26,6 +26,16 @@ extern "C" {
         first: usize,
         end: usize,
     ) -> u64;
+
+    fn pq_hlg_convert_row_linear(
+        peak: u64,
+        row: *const f32,
+        row_len: usize,
+        dst: *mut u8,
+        dst_len: usize,
+        first: usize,
+        end: usize,
+    ) -> u64;
 }
 
 /// What is declared of a source: its peak in whole cd/m2, and the depth and the range of its samples.
@@ -43,7 +53,7 @@ impl Source {
     }
 }
 
-/// A refusal's number, 5 to 9, and its place: for 9 the first refused sample counted from the row's start, else 0.
+/// A refusal's number, 5 to 9, 15 or 16, and its place: for 9 and 16 the first refused sample or value counted from the row's start, else 0.
 #[derive(Debug, PartialEq, Eq)]
 pub struct Refusal {
     pub number: u64,
@@ -60,6 +70,15 @@ pub fn convert_row_ycbcr(source: Source, row: &[u8], dst: &mut [u8], first: usiz
     make_call(pq_hlg_convert_row_ycbcr, source, row, dst, first, end)
 }
 
+/// Converts linear values, display light in cd/m2, three to a pixel; `dst` has two bytes for each, and gets RGB.
+pub fn convert_row_linear(peak: u64, row: &[f32], dst: &mut [u8], first: usize, end: usize) -> Result<(), Refusal> {
+    // As below.
+    let number = unsafe {
+        pq_hlg_convert_row_linear(peak, row.as_ptr(), row.len(), dst.as_mut_ptr(), dst.len(), first, end)
+    };
+    answer(number)
+}
+
 fn make_call(
     convert: RowCall,
     source: Source,
@@ -72,6 +91,11 @@ fn make_call(
     let number = unsafe {
         convert(source.peak, source.format(), row.as_ptr(), row.len(), dst.as_mut_ptr(), dst.len(), first, end)
     };
+    answer(number)
+}
+
+/// What a symbol's number says.
+fn answer(number: u64) -> Result<(), Refusal> {
     match number {
         0 => Ok(()),
         n => Err(Refusal { number: n % 256, place: n / 256 }),

@@ -4,7 +4,7 @@
 //!   target/host/return_example_rs
 
 mod hlg_pq;
-#[allow(dead_code)] // the Y'CbCr call
+#[allow(dead_code)] // the Y'CbCr call and that on linear values
 mod pq_hlg;
 
 use pq_hlg::Source;

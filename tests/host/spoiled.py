@@ -3,7 +3,7 @@ give the same numbers and bytes, only slower.
 
     python3 -m tests.host.spoiled [--kind KIND] [--seed N] [--library FILE] [--return-library FILE] [--spoiled FILE FILE]
 
-Copies the crates and what is proved of them to a temporary folder, spoils every number of both files hint_table.rt there,
+Copies the crates and what is proved of them to a temporary folder, spoils every number of its tables of hints there,
 has the prover build both libraries, and asks the sound and the spoiled ones the same calls. Only span, pq_hlg, return_span and
 hlg_pq are proved again. --spoiled names two libraries that are built already. How much slower they are, is printed; no time is
 asserted.
@@ -14,6 +14,7 @@ import re
 import shutil
 import subprocess
 import sys
+from array import array
 from collections import Counter
 from pathlib import Path
 from random import Random
@@ -21,34 +22,37 @@ from resource import RUSAGE_CHILDREN, getrusage
 from tempfile import TemporaryDirectory
 from typing import NamedTuple
 
+from tests.reference.linear_cases import draw_signal
 from tests.reference.sample_format import FORMATS, TEN_NARROW
 from tests.reference.samples import MARKED_PEAKS
 
-from . import return_path
+from . import linear_rows, return_path
 from .compare import ROW_PIXELS, Difference, adversarial_rows, batches, damaged_calls, hold, in_both, random_rows, row_of, share
-from .engine import LIBRARY, RETURN, RETURN_LIBRARY, ROOT, Broken, Call, ask, build
+from .engine import LIBRARY, LINEAR, RETURN, RETURN_LIBRARY, ROOT, Broken, Call, ask, build
 
 ENTRY = re.compile(r"^    (\d+),$", re.M)
 WORD = 2**64
 RUN = 16                                 # entries in a row that are spoiled alike: a guess takes two neighbours
-PIXELS = {"random": 40_000, "adversarial": 40_000}      # of ten-bit narrow range and of the return path; of each other format a quarter
-DAMAGED = 2_000                          # calls, and of the return path a quarter
+PIXELS = {"random": 40_000, "adversarial": 40_000}      # of ten-bit narrow range, of the return path and of linear values; of each other format a quarter
+DAMAGED = 2_000                          # calls, of the return path a quarter, and as many on linear values
+KINDS = {0: "in RGB and in Y'CbCr", RETURN: "of the return path", LINEAR: "of linear values"}      # by what the options have
 TIMED, LONG = 20, 8_192                  # rows whose time is taken, and their pixels
 
 
 class Hints(NamedTuple):
-    """A crate that guesses by a table of hints, and the library that is built on it."""
+    """A crate that guesses by tables of hints, and the library that is built on it."""
     crate: str
     library: str
     slope_bits: int                      # so many low bits of a hint are a line's slope
+    files: tuple
 
     @property
-    def table(self):
-        """The file with the hints."""
-        return f"crates/{self.crate}/src/hint_table.rt"
+    def tables(self):
+        """The files with the hints."""
+        return [f"crates/{self.crate}/src/{name}" for name in self.files]
 
 
-HINTS = (Hints("span", "pq_hlg", 20), Hints("return_span", "hlg_pq", 20))
+HINTS = (Hints("span", "pq_hlg", 20, ("hint_table.rt", "cell_table.rt")), Hints("return_span", "hlg_pq", 20, ("hint_table.rt",)))
 
 
 def off_by_a_little(random, hint, slope_bits):
@@ -63,14 +67,14 @@ SPOILERS = {
 }
 
 
-def spoiled_text(text, hinted, kind, random):
-    """A hint_table.rt with every number spoiled in one way, or in all of them by turns."""
+def spoiled_text(text, name, slope_bits, kind, random):
+    """A table of hints with every number spoiled in one way, or in all of them by turns."""
     names = list(SPOILERS) if kind == "mixed" else [kind]
     hints = list(map(int, ENTRY.findall(text)))
-    length = re.search(r"HINTS: \[u64; (\d+)\]", text)
+    length = re.search(r"const [A-Z]+: \[u64; (\d+)\]", text)
     if not length or int(length[1]) != len(hints):
-        raise SystemExit(f"{hinted.table} does not look as it should")
-    spoiled = iter([min(SPOILERS[names[i // RUN % len(names)]](random, hint, hinted.slope_bits), WORD - 1)
+        raise SystemExit(f"{name} does not look as it should")
+    spoiled = iter([min(SPOILERS[names[i // RUN % len(names)]](random, hint, slope_bits), WORD - 1)
                     for i, hint in enumerate(hints)])
     return ENTRY.sub(lambda _: f"    {next(spoiled)},", text)
 
@@ -95,14 +99,15 @@ def build_spoiled(folder, kind, random):
     """Both libraries, their hints spoiled."""
     copy_tree(folder)
     for hinted in HINTS:
-        table = folder / hinted.table
-        table.write_text(spoiled_text(table.read_text(encoding="utf-8"), hinted, kind, random), encoding="utf-8")
+        for name in hinted.tables:
+            table = folder / name
+            table.write_text(spoiled_text(table.read_text(encoding="utf-8"), name, hinted.slope_bits, kind, random), encoding="utf-8")
     return [prove_library(folder, hinted) for hinted in HINTS]
 
 
 def calls_to_compare(random):
     """Pixels drawn evenly and where it is delicate and all greys under marked peaks, in RGB and in Y'CbCr, and damaged calls of either; then
-    the same of the return path."""
+    the same of the return path and of linear values."""
     for form in FORMATS:
         yield from in_both(random_rows(random, share("random", PIXELS["random"], form), form))
         yield from in_both(adversarial_rows(random, share("adversarial", PIXELS["adversarial"], form), form))
@@ -113,24 +118,35 @@ def calls_to_compare(random):
     yield from return_path.random_rows(random, PIXELS["random"], ROW_PIXELS)
     yield from return_path.delicate_rows(random, PIXELS["adversarial"], ROW_PIXELS)
     yield from return_path.damaged_calls(random, DAMAGED // 4)
+    yield from linear_rows.random_rows(random, PIXELS["random"], ROW_PIXELS)
+    yield from linear_rows.delicate_rows(random, PIXELS["adversarial"], ROW_PIXELS)
+    yield from linear_rows.damaged_calls(random, DAMAGED // 4)
 
 
 def compare(sound, spoiled, random):
-    """Fails where the two answer differently; counts the calls and the pixels converted, of the calls to HLG and of the return path."""
+    """Fails where the two answer differently; counts the calls and the pixels converted, of each kind of calls."""
     calls, pixels = Counter(), Counter()
     for batch in batches(calls_to_compare(random)):
         for call, wanted, given in zip(batch, ask([sound], batch), ask([spoiled], batch)):
             hold(call, given, (wanted.number, wanted.destination))
-            calls[call.returns] += 1
-            pixels[call.returns] += 0 if wanted.number else call.end - call.first
+            kind = call.options & (RETURN | LINEAR)
+            calls[kind] += 1
+            pixels[kind] += 0 if wanted.number else call.end - call.first
     return calls, pixels
 
 
+def timed_row(random, options):
+    """A long row of codes drawn evenly, or of linear values drawn evenly by their signals."""
+    if options & LINEAR:
+        return array("I", [draw_signal(random) for _ in range(3 * LONG)])
+    return b"".join(code.to_bytes(2, "big") for code in random.choices(TEN_NARROW.taken, k=3 * LONG))
+
+
 def time_a_pixel(program, options, random):
-    """Nanoseconds of CPU a pixel, on long rows of codes drawn evenly."""
-    rows = [b"".join(code.to_bytes(2, "big") for code in random.choices(TEN_NARROW.taken, k=3 * LONG)) for _ in range(TIMED)]
+    """Nanoseconds of CPU a pixel, on such rows."""
+    rows = [timed_row(random, options) for _ in range(TIMED)]
     start = getrusage(RUSAGE_CHILDREN).ru_utime
-    ask([program], [Call(4_000, row, len(row), 0, LONG, options) for row in rows])
+    ask([program], [Call(4_000, row, 6 * LONG, 0, LONG, options) for row in rows])
     return 1e9 * (getrusage(RUSAGE_CHILDREN).ru_utime - start) / TIMED / LONG
 
 
@@ -138,9 +154,8 @@ def run(libraries, spoiled, random):
     """Compares the sound libraries with the spoiled ones and prints what was found."""
     programs = [build("pages", to_hlg, name, back) for (to_hlg, back), name in ((libraries, "sound"), (spoiled, "spoiled"))]
     calls, pixels = compare(*programs, random)
-    for options, name in ((0, "in RGB and in Y'CbCr"), (RETURN, "of the return path")):
-        returns = bool(options)
-        print(f"{calls[returns]:,} calls and {pixels[returns]:,} pixels {name}: every number and byte as with sound hints")
+    for options, name in KINDS.items():
+        print(f"{calls[options]:,} calls and {pixels[options]:,} pixels {name}: every number and byte as with sound hints")
         sound, slow = (time_a_pixel(program, options, Random(1)) for program in programs)
         print(f"about {sound:,.0f} ns a pixel with sound hints, {slow:,.0f} with spoiled ones")
 

@@ -30,7 +30,18 @@ static const unsigned EXACT[][3] = {{660, 236, 539}, {287, 268, 136}, {657, 582,
 static const unsigned DELICATE[][3] = {{140, 436, 503}, {172, 677, 247}, {213, 744, 155}, {177, 557, 248}, {527, 488, 513},
                                        {373, 641, 882}, {995, 928, 337}, {1019, 1019, 1019}};
 
-enum { EXACTS = sizeof EXACT / sizeof *EXACT, DELICATES = sizeof DELICATE / sizeof *DELICATE };
+/* Linear values by their bits, of which a code has just gone up: four under a peak of 1,000, four under 4,000, four under 10,000. */
+static const uint32_t AT_STEPS[][3] = {
+    {0x439b6b3a, 0x439b6b3a, 0x40e6036f}, {0x4479fffd, 0x4479fffd, 0x3fd6fe17}, {0x447a0001, 0x447a0001, 0x42b5a627},
+    {0x452dcff7, 0x442ac8a5, 0x452dcff7}, {0x43970528, 0x42f38d2e, 0x457a0003}, {0x447a0002, 0x447a0002, 0x43d4e82a},
+    {0x43443473, 0x446189de, 0x457a00a6}, {0x43874e78, 0x43874e78, 0x4155c022}, {0x3d0a0420, 0x44382f2d, 0x3f9997c6},
+    {0x42c8a55c, 0x4478fee4, 0x4478fee4}, {0x39d3a000, 0x3fdea6bd, 0x45b93dc6}, {0x42fb1f1c, 0x44a6f247, 0x44f9ce63}};
+
+enum {
+    EXACTS = sizeof EXACT / sizeof *EXACT,
+    DELICATES = sizeof DELICATE / sizeof *DELICATE,
+    STEPS = sizeof AT_STEPS / sizeof *AT_STEPS
+};
 
 typedef uint64_t row_call(uint64_t, uint64_t, const uint8_t *, size_t, uint8_t *, size_t, size_t, size_t);
 
@@ -43,6 +54,15 @@ static uint64_t convert_back(uint64_t peak, uint64_t format, const uint8_t *from
 
 static row_call *measured;
 static uint8_t *stack, row[6 * LONGEST], dst[6 * LONGEST];
+static float values[3 * LONGEST];
+
+/* The call on linear values, which takes no format: a float stands for two bytes of a row. */
+static uint64_t convert_linear(uint64_t peak, uint64_t format, const uint8_t *from, size_t from_len, uint8_t *to, size_t to_len,
+                               size_t first, size_t end) {
+    (void)format, (void)from;
+    return pq_hlg_convert_row_linear(peak, values, from_len / 2, to, to_len, first, end);
+}
+
 static size_t deepest;
 
 static void stop(const char *why) {
@@ -69,9 +89,20 @@ static void draw_row(uint64_t format) {
     }
 }
 
+/* Linear values from 2^-25 to above 10,000 cd/m2, about as many of each power of two, every sixteenth negative. */
+static void draw_values(void) {
+    uint32_t lot = 1;
+    for (size_t i = 0; i < 3 * LONGEST; i++) {
+        lot = 1664525 * lot + 1013904223;
+        uint32_t bits = 0x33000000 + (lot >> 4) % 0x13800000 + (lot >> 28 == 0 ? 0x80000000 : 0);
+        memcpy(values + i, &bits, sizeof bits);
+    }
+}
+
 static void *make_calls(void *nothing) {
     uint8_t *here = __builtin_frame_address(0);
-    size_t formats = measured == convert_back ? 1 : sizeof FORMATS / sizeof *FORMATS;
+    size_t formats = measured == convert_back || measured == convert_linear ? 1 : sizeof FORMATS / sizeof *FORMATS;
+    draw_values();
     for (size_t f = 0; f < formats; f++) {
         draw_row(FORMATS[f]);
         for (size_t i = 0; i < sizeof PEAKS / sizeof *PEAKS; i++)
@@ -85,6 +116,9 @@ static void *make_calls(void *nothing) {
     for (size_t i = 0; i < 3 * DELICATES; i++)
         put_sample(i, DELICATE[i / 3][i % 3]);
     convert(1000, 0, DELICATES);
+    memcpy(values, AT_STEPS, sizeof AT_STEPS);
+    for (size_t i = 0; measured == convert_linear && i < sizeof PEAKS / sizeof *PEAKS; i++)
+        convert(PEAKS[i], 0, STEPS);
     uint8_t *lowest = stack;
     while (*lowest == COLOUR)
         lowest++;
@@ -111,6 +145,7 @@ int main(void) {
     if (stack == MAP_FAILED)
         stop("no memory");
     double rgb = stack_of(pq_hlg_convert_row), ycbcr = stack_of(pq_hlg_convert_row_ycbcr), back = stack_of(convert_back);
-    printf("a call uses %.1f KiB of stack in RGB, %.1f KiB in Y'CbCr, %.1f KiB on the return path\n", rgb, ycbcr, back);
+    double linear = stack_of(convert_linear);
+    printf("a call uses %.1f KiB of stack in RGB, %.1f KiB in Y'CbCr, %.1f KiB on the return path, %.1f KiB on linear values\n", rgb, ycbcr, back, linear);
     return 0;
 }

@@ -1,12 +1,13 @@
 /* The stored vectors of the second implementation (rows.txt, ycbcr_rows.txt and pixels.txt in tests/vectors, ten-bit narrow
    range, then those of the same names in tests/vectors/formats, where each line opens with a format, then rows.txt and pixels.txt
-   in tests/vectors/return, whose lines have no peak) through the row calls from C. tests/reference/README.md says what a line
-   holds; a pixel is a row of one pixel here, in RGB, so samples past 16 bits are left out.
+   in tests/vectors/return, whose lines have no peak, then linear_rows.txt and linear.txt) through the row calls from C.
+   tests/reference/README.md says what a line holds; a pixel is a row of one pixel here, in RGB, so samples past 16 bits are left
+   out, and so are the single values of linear.txt, which no row call is asked for.
      gcc -O2 -Wall -Werror -Iinclude tests/host/vectors.c target/staticlib/libpq_hlg.a target/staticlib/libhlg_pq.a -o target/host/vectors_c
      target/host/vectors_c tests/vectors/rows.txt tests/vectors/ycbcr_rows.txt tests/vectors/pixels.txt \
          tests/vectors/formats/rows.txt tests/vectors/formats/ycbcr_rows.txt tests/vectors/formats/pixels.txt \
-         tests/vectors/return/rows.txt tests/vectors/return/pixels.txt
-   The last two may be left out, or the last five. Two files alone are those of the return path. */
+         tests/vectors/return/rows.txt tests/vectors/return/pixels.txt tests/vectors/linear_rows.txt tests/vectors/linear.txt
+   The last two may be left out, or the last four, or the last seven. Two files alone are those of the return path. */
 #include <inttypes.h>
 #include <stdio.h>
 #include <stdlib.h>
@@ -113,12 +114,97 @@ static unsigned test_pixels(const char *file, row_call *convert, enum opening op
     return tried;
 }
 
+static float values[LONGEST];
+static uint32_t numbers[LONGEST];
+
+/* "-", or hexadecimal digits, so many a number, and COUNT*DIGITS, joined by +; gives how many numbers. */
+static size_t read_runs(const char *text, size_t width) {
+    size_t count = 0;
+    if (strcmp(text, "-") == 0)
+        return 0;
+    while (*text) {
+        char digits[9] = {0};
+        size_t times = 1, ahead = strspn(text, "0123456789");
+        if (text[ahead] == '*') {
+            times = strtoull(text, NULL, 10);
+            text += ahead + 1;
+        }
+        memcpy(digits, text, strnlen(text, width));
+        for (text += strlen(digits); times > 0 && count < LONGEST; times--)
+            numbers[count++] = (uint32_t)strtoul(digits, NULL, 16);
+        text += *text == '+';
+    }
+    return count;
+}
+
+/* So many of the numbers as floats of that pattern. */
+static void put_values(size_t count) {
+    memcpy(values, numbers, count * sizeof *values);
+}
+
+/* So many of the numbers as samples. */
+static void put_samples(uint8_t *to, size_t count) {
+    for (size_t i = 0; i < count; i++) {
+        to[2 * i] = (uint8_t)(numbers[i] >> 8);
+        to[2 * i + 1] = (uint8_t)numbers[i];
+    }
+}
+
+static unsigned test_linear_rows(const char *file) {
+    FILE *in = fopen(file, "r");
+    static char source[4096], after[4096];
+    uint64_t peak, number;
+    size_t first, end, len;
+    unsigned line = 0;
+    while (in && fscanf(in, "%" SCNu64 " %zu %zu %4095s %zu %" SCNu64 " %4095s", &peak, &first, &end, source, &len, &number, after) == 7) {
+        line++;
+        size_t floats = read_runs(source, 8);
+        put_values(floats);
+        memset(dst, UNWRITTEN, LONGEST);
+        memset(expected, UNWRITTEN, LONGEST);
+        if (strcmp(after, "same") != 0)
+            put_samples(expected, read_runs(after, 4));
+        must_match(pq_hlg_convert_row_linear(peak, values, floats, dst, len, first, end) == number, file, line);
+        must_match(memcmp(dst, expected, LONGEST) == 0, file, line);
+    }
+    must_match(line > 0 && feof(in), file, line + 1);
+    return line;
+}
+
+static unsigned test_linear_pixels(const char *file, unsigned *left_out) {
+    FILE *in = fopen(file, "r");
+    char text[256], word[32];
+    uint64_t peak, code[3];
+    unsigned line = 0, tried = 0;
+    while (in && fgets(text, sizeof text, in)) {
+        line++;
+        if (strncmp(text, "value ", 6) == 0) {
+            ++*left_out;
+            continue;
+        }
+        tried++;
+        must_match(sscanf(text, "pixel %" SCNu64 " %" SCNu32 " %" SCNu32 " %" SCNu32 " %31s %" SCNu64 " %" SCNu64, &peak, numbers, numbers + 1,
+                          numbers + 2, word, code + 1, code + 2) == 7, file, line);
+        int refused = strcmp(word, "refused") == 0;
+        put_values(3);
+        code[0] = strtoull(word, NULL, 10);
+        for (int i = 0; i < 3; i++)
+            numbers[i] = refused ? UNWRITTEN << 8 | UNWRITTEN : (uint32_t)code[i];
+        put_samples(expected, 3);
+        memset(dst, UNWRITTEN, 6);
+        must_match(pq_hlg_convert_row_linear(peak, values, 3, dst, 6, 0, 1) == (refused ? code[1] + 256 * code[2] : 0), file, line);
+        must_match(memcmp(dst, expected, 6) == 0, file, line);
+    }
+    must_match(tried > 0 && feof(in), file, line + 1);
+    return tried;
+}
+
 int main(int argc, char **argv) {
-    if (argc != 3 && argc != 4 && argc != 7 && argc != 9)
+    if (argc != 3 && argc != 4 && argc != 7 && argc != 9 && argc != 11)
         return 2;
-    unsigned rows = 0, ycbcr_rows = 0, pixels = 0, return_rows = 0, return_pixels = 0, left_out = 0;
+    unsigned rows = 0, ycbcr_rows = 0, pixels = 0, return_rows = 0, return_pixels = 0, linear_rows = 0, linear_pixels = 0, left_out = 0;
     char **files = argv + 1, **end = argv + argc;
-    for (enum opening opening = PEAK; end - files >= 3; opening = FORMAT_AND_PEAK, files += 3) {
+    for (enum opening opening = PEAK; end - files >= 3 && opening != NOTHING; opening++, files += 3) {
         rows += test_rows(files[0], pq_hlg_convert_row, opening);
         ycbcr_rows += test_rows(files[1], pq_hlg_convert_row_ycbcr, opening);
         pixels += test_pixels(files[2], pq_hlg_convert_row, opening, &left_out);
@@ -126,8 +212,13 @@ int main(int argc, char **argv) {
     if (files < end) {
         return_rows = test_rows(files[0], convert_back, NOTHING);
         return_pixels = test_pixels(files[1], convert_back, NOTHING, &left_out);
+        files += 2;
     }
-    printf("%u rows in RGB, %u in Y'CbCr and %u pixels as stored, of the return path %u rows and %u pixels; %u pixels left out\n",
-           rows, ycbcr_rows, pixels, return_rows, return_pixels, left_out);
+    if (files < end) {
+        linear_rows = test_linear_rows(files[0]);
+        linear_pixels = test_linear_pixels(files[1], &left_out);
+    }
+    printf("%u rows in RGB, %u in Y'CbCr and %u pixels as stored, of the return path %u rows and %u pixels, of linear values %u rows and %u pixels; "
+           "%u pixels and values left out\n", rows, ycbcr_rows, pixels, return_rows, return_pixels, linear_rows, linear_pixels, left_out);
     return 0;
 }
