@@ -1,6 +1,7 @@
 #include "doubles.h"
 
 #include <math.h>
+#include <string.h>
 
 static const double m1 = 0.1593017578125, m2 = 78.84375;
 static const double c1 = 0.8359375, c2 = 18.8515625, c3 = 18.6875;
@@ -99,6 +100,65 @@ void convert_by_tables(const struct tables *tables, const uint8_t *row, uint8_t 
         }
         for (int i = 0; i < 3; i++)
             lights[i] = tables->light[codes[i]] * tables->gain[brightest];
+        write_codes(lights, dst);
+    }
+}
+
+double light_of_code(unsigned code)
+{
+    return pq_eotf(signal_of_code(code));
+}
+
+/* Values below 0 count as 0, those above 10,000 as that; gives the brightest. */
+static double read_lights(const float *pixel, double lights[3])
+{
+    double brightest = 0;
+    for (int i = 0; i < 3; i++) {
+        lights[i] = fmin(fmax(pixel[i], 0), 10000);
+        brightest = fmax(brightest, lights[i]);
+    }
+    return brightest;
+}
+
+void convert_linear_by_libm(double peak, const float *row, uint8_t *dst, size_t pixels)
+{
+    double J = pq_inverse_eotf(1000), H = pq_inverse_eotf(peak);
+    for (size_t p = 0; p < pixels; p++, row += 3, dst += 6) {
+        double lights[3], brightest = read_lights(row, lights);
+        double gain = brightest > 0 ? bent_light(pq_inverse_eotf(brightest), brightest, peak, J, H) / brightest / 1000 : 0;
+        for (int i = 0; i < 3; i++)
+            lights[i] *= gain;
+        write_codes(lights, dst);
+    }
+}
+
+/* The bits of 64 as a float, and how many patterns lie from one point of the tables to the next. */
+static const uint32_t FIRST_POINT = 0x42800000, TO_NEXT = (1u << 23) / LINEAR_POINTS;
+
+void fill_linear_tables(struct linear_tables *tables, double peak)
+{
+    double J = pq_inverse_eotf(1000), H = pq_inverse_eotf(peak);
+    for (uint32_t i = 0; i < sizeof tables->gain / sizeof *tables->gain; i++) {
+        uint32_t bits = FIRST_POINT + i * TO_NEXT;
+        float light;
+        memcpy(&light, &bits, sizeof light);
+        tables->gain[i] = bent_light(pq_inverse_eotf(light), light, peak, J, H) / light / 1000;
+    }
+}
+
+void convert_linear_by_tables(const struct linear_tables *tables, const float *row, uint8_t *dst, size_t pixels)
+{
+    for (size_t p = 0; p < pixels; p++, row += 3, dst += 6) {
+        double lights[3], gain = 0.001;
+        float brightest = (float)read_lights(row, lights);
+        uint32_t bits;
+        memcpy(&bits, &brightest, sizeof bits);
+        if (bits >= FIRST_POINT) {
+            const double *point = tables->gain + (bits - FIRST_POINT) / TO_NEXT;
+            gain = point[0] + (point[1] - point[0]) * ((bits - FIRST_POINT) % TO_NEXT) / TO_NEXT;
+        }
+        for (int i = 0; i < 3; i++)
+            lights[i] *= gain;
         write_codes(lights, dst);
     }
 }

@@ -6,7 +6,7 @@
 import sys
 from pathlib import Path
 
-from .result import FORMATS, PEAKS, PICTURES, PIXELS, RETURN_WAYS, WAYS, read, three_digits
+from .result import FORMATS, LINEAR_WAYS, PEAKS, PICTURES, PIXELS, RETURN_WAYS, WAYS, read, three_digits
 
 
 def table(words, head, rows):
@@ -36,6 +36,12 @@ def main(path):
           [[f"`{name}`", *("{} ({})".format(*map(three_digits, result.formats[picture][name])) for picture in PICTURES)] for name in FORMATS])
     table("ns a pixel of the return path (and times return_libm), and of `row_call` on the PQ picture under a peak of 1,000", ["", *PICTURES],
           [[f"`{way}`", *("{} ({})".format(*map(three_digits, result.returned[picture][way])) for picture in PICTURES)] for way in RETURN_WAYS])
+    rows = ", ".join(str(result.linear_rows[4_000, picture]) for picture in PICTURES)
+    table(f"ns a pixel of linear values (and times linear_libm) under a peak of 4,000, and of `row_call` on the PQ picture; {rows} rows", ["", *PICTURES],
+          [[f"`{way}`", *("{} ({})".format(*map(three_digits, result.linear[4_000, picture][way])) for picture in PICTURES)] for way in LINEAR_WAYS])
+    table("linear values, `linear_call` times linear_libm, and times `row_call`", ["peak", "", *PICTURES],
+          [[f"{peak:,}", f"`{way}`", *(three_digits(result.linear[peak, picture]["linear_call"][0] / result.linear[peak, picture][way][0])
+                                       for picture in PICTURES)] for peak in PEAKS for way in ("linear_libm", "row_call")])
 
 
 if __name__ == "__main__":

@@ -1,4 +1,4 @@
-"""Request 11, "Linear float frames": display light as 32-bit floats in cd/m2. The class of a value, its whole light, the pixel call, the row call
+"""Request 11, linear light: the class of a value that is given by its 32 bits, its whole light, the pixel call, the row call
 and its number for C.
 
 A float stands by the 32 bits of its pattern, decoded here by IEEE 754, so that a zero keeps its sign and a not-a-number its bits. A value is a fraction of
