@@ -1,6 +1,6 @@
 /* SPDX-License-Identifier: MIT */
 /* The converter for hosts in C: PQ rows of ten or twelve bits, narrow or full range, to HLG for a display of 1,000 cd/m2, ten
-   bits, narrow range, as RGB or as Y'CbCr.
+   bits, narrow range, as RGB or as Y'CbCr; and rows of linear floats to the same RGB.
    Link target/staticlib/libpq_hlg.a, made by `rt staticlib pq_hlg` (x86-64 Linux). */
 #ifndef PQ_HLG_H
 #define PQ_HLG_H
@@ -50,7 +50,7 @@ extern "C" {
 
    A pointer may be null only where its length is 0, and needs no alignment. row and dst must not overlap. The library has no
    global state and no heap: nothing is kept between calls, and calls may run at the same time, also on one row, as long as no
-   call's dst overlaps a row or dst of another. An accepted call, this or the next, uses 54.7 KiB of stack, measured on the
+   call's dst overlaps a row or dst of another. An accepted call, this or the next, uses 56.7 KiB of stack, measured on the
    compiled library by tests/host/stack.c, and the tests allow 72 KiB at most. The library's one outside symbol is memset. */
 uint64_t pq_hlg_convert_row(uint64_t peak, uint64_t format,
                             const uint8_t *row, size_t row_len,
@@ -69,9 +69,9 @@ uint64_t pq_hlg_convert_row_ycbcr(uint64_t peak, uint64_t format,
    counts floats, dst_len bytes: dst gets two bytes for each float, HLG codes as pq_hlg_convert_row writes them, whatever the depth
    and range of the title. first and end count pixels; the span and what remains of dst are as there.
 
-   A value below 0 counts as 0 (minus zero is no such value), one above 10,000 as 10,000. None of the codes is farther from what the
-   published formulas give unrounded of the values so counted than 9/16 of a code where the peak is at most 1,000 or the brightest
-   value lies a whole code below the knee of the curve; elsewhere one and a half codes.
+   A value below 0 counts as 0 (minus zero is no such value), one above 10,000 as 10,000. Under a peak up to 1,000, and when the
+   brightest value lies a whole code below the knee of the curve, no code is farther than 9/16 of a code from what the published
+   formulas give unrounded of the values so counted; elsewhere none is farther than one and a half codes.
 
    Returns 0, or a refusal plus 256 times its place. A refused call leaves all of dst. The tests are made in this order:
       5  the peak is 0 or above 10,000
@@ -81,7 +81,7 @@ uint64_t pq_hlg_convert_row_ycbcr(uint64_t peak, uint64_t format,
      16  the span has a value that is infinite or not a number; the place says which one comes first, 0 being the row's first float
    The place is 0 for all but 16. Values outside the span are not looked at.
 
-   row lies as floats must, at a multiple of 4 bytes. An accepted call uses 56.5 KiB of stack. All else is as for
+   row lies as floats must, at a multiple of 4 bytes. An accepted call uses 56.6 KiB of stack. All else is as for
    pq_hlg_convert_row. */
 uint64_t pq_hlg_convert_row_linear(uint64_t peak,
                                    const float *row, size_t row_len,
