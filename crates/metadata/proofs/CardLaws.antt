@@ -12,7 +12,8 @@ use Rattle.quantity.specs.declared.Source.{Source}
 use Rattle.quantity.specs.SampleFormat.{formatOf}
 use Rattle.big_endian.specs.BigEndian.{numberAt}
 use Rattle.metadata.specs.Card.{bit, stands, maxCLL, masteringPeak, cardBytes, unknownBit, cutShort, known, outOfRange, fieldOutOfRange}
-use Rattle.metadata.specs.Card.{peak, format, declared, cardAnswer, following, cardWants}
+use Rattle.metadata.specs.Card.{peak, format, declared, cardAnswer, endAfter, following, cardWants}
+use Rattle.metadata.specs.declared.SourceAnswer.{SourceAnswer}
 use Rattle.metadata.specs.declared.SourceAnswer.the-variants.{Declared, Refused}
 
 one-of : (a b c : Bool) → (a ≡ false → b ≡ false → c ≡ false → ⊥) → (a || b || c) ≡ true
@@ -51,47 +52,48 @@ pub bits-refused :
 unfolding unknownBit
 bits-refused = (refl, refl, refl, refl)
 
--- What each outcome of the tests says of a card: its answer, how many bytes it wants, and why.
+-- What the fields of a card answer, once all its bytes are there.
+abbrev fieldsAnswer : List ℕ → SourceAnswer
+fieldsAnswer card = cond (fieldOutOfRange card) (Refused 4) (Declared (declared card))
+
+-- What each outcome of the tests before those of the fields says of a card: its answer, how many bytes it wants, and why.
 pub data Outcome (card : List ℕ) : Type 0 where
   empty : length card ≡ 0 → cardAnswer card ≡ Refused 1 → cardWants card ≡ 1 → Outcome card
   unknown : 0 < length card → unknownBit card ≡ true → cardAnswer card ≡ Refused 2 → cardWants card ≡ 0 → Outcome card
   cut : 0 < length card → unknownBit card ≡ false → length card < cardBytes card → cardAnswer card ≡ Refused 3
       → cardWants card ≡ cardBytes card - length card → Outcome card
-  outside : unknownBit card ≡ false → cardBytes card ≤ length card → fieldOutOfRange card ≡ true → cardAnswer card ≡ Refused 4
-      → cardWants card ≡ 0 → Outcome card
-  taken : unknownBit card ≡ false → cardBytes card ≤ length card → fieldOutOfRange card ≡ false → cardAnswer card ≡ Declared (declared card)
-      → cardWants card ≡ 0 → Outcome card
+  complete : unknownBit card ≡ false → cardBytes card ≤ length card → cardAnswer card ≡ fieldsAnswer card → cardWants card ≡ 0 → Outcome card
 
 pub outcome : (card : List ℕ) → Outcome card
 unfolding cardAnswer cardWants
-outcome card = go (eqb (length card) 0) (unknownBit card) (cutShort card) (fieldOutOfRange card) refl refl refl refl
+outcome card = go (eqb (length card) 0) (unknownBit card) (cutShort card) refl refl refl
   where
     some-byte : eqb (length card) 0 ≡ false → 0 < length card
     some-byte p = let n = eqb-false (length card) 0 p in omega arith
 
-    go : (a b c d : Bool) → eqb (length card) 0 ≡ a → unknownBit card ≡ b → cutShort card ≡ c → fieldOutOfRange card ≡ d → Outcome card
-    go true b c d p q r s = empty (eqb-true (length card) 0 p) (simp p) (simp p)
-    go false true c d p q r s = unknown (some-byte p) q (simp (p, q)) (simp (p, q))
-    go false false true d p q r s =
-        cut (some-byte p) q (ltb-true (length card) (cardBytes card) r) (simp (p, q, r)) (simp (p, q))
-    go false false false true p q r s =
-        let whole = ltb-false (length card) (cardBytes card) r in
-        outside q whole s (simp (p, q, r, s)) (simp (p, q) (omega arith))
-    go false false false false p q r s =
-        let whole = ltb-false (length card) (cardBytes card) r in
-        taken q whole s (simp (p, q, r, s)) (simp (p, q) (omega arith))
+    go : (a b c : Bool) → eqb (length card) 0 ≡ a → unknownBit card ≡ b → cutShort card ≡ c → Outcome card
+    go true b c p q r = empty (eqb-true (length card) 0 p) (simp p) (simp p)
+    go false true c p q r = unknown (some-byte p) q (simp (p, q)) (simp (p, q))
+    go false false true p q r = cut (some-byte p) q (ltb-true (length card) (cardBytes card) r) (simp (p, q, r)) (simp (p, q))
+    go false false false p q r =
+        let all = ltb-false (length card) (cardBytes card) r in
+        complete q all (simp (p, q, r)) (simp (p, q) (omega arith))
 
 -- An accepted card has all its bytes, and declares what its fields say.
 pub accepted : (card : List ℕ) {source : Source} → cardAnswer card ≡ Declared source
     → (cardBytes card ≤ length card) × (fieldOutOfRange card ≡ false) × (source ≡ declared card)
 accepted card {source} h = go (outcome card)
   where
+    by-fields : cardBytes card ≤ length card → (b : Bool) → fieldOutOfRange card ≡ b → fieldsAnswer card ≡ Declared source
+        → (cardBytes card ≤ length card) × (fieldOutOfRange card ≡ false) × (source ≡ declared card)
+    by-fields l true f e = let g = simp f at e in let z : _≡_ {A = ℕ} 0 1 = cc in absurd (omega arith)
+    by-fields l false f e = let g = simp f at e in (l, f, cc)
+
     go : Outcome card → (cardBytes card ≤ length card) × (fieldOutOfRange card ≡ false) × (source ≡ declared card)
     go (empty l e w) = let z : _≡_ {A = ℕ} 0 1 = cc in absurd (omega arith)
     go (unknown l u e w) = let z : _≡_ {A = ℕ} 0 1 = cc in absurd (omega arith)
     go (cut l u s e w) = let z : _≡_ {A = ℕ} 0 1 = cc in absurd (omega arith)
-    go (outside u l f e w) = let z : _≡_ {A = ℕ} 0 1 = cc in absurd (omega arith)
-    go (taken u l f e w) = (l, f, cc)
+    go (complete u l e w) = by-fields l (fieldOutOfRange card) refl (sym e ∙ h)
 
 -- An accepted card wants no byte.
 pub wants-none : (card : List ℕ) {source : Source} → cardAnswer card ≡ Declared source → cardWants card ≡ 0
@@ -101,8 +103,7 @@ wants-none card {source} h = go (outcome card)
     go (empty l e w) = cc
     go (unknown l u e w) = w
     go (cut l u s e w) = cc
-    go (outside u l f e w) = w
-    go (taken u l f e w) = w
+    go (complete u l e w) = w
 
 pub or-false : (a b : Bool) → (a || b) ≡ false → (a ≡ false) × (b ≡ false)
 or-false true b h = absurd (true≢false h)
@@ -134,10 +135,14 @@ peak-in-range card h =
     let unconstrained = chosen {b = stands 2 card} {x = 10000} (λ e. omega arith) mastering in
     rw (a .2) (chosen (known-in-range (stands 0 card) (maxCLL card) (fields .0)) unconstrained)
 
--- What follows an accepted card begins after its bytes.
-pub after-card : (card : List ℕ) {source : Source} → cardAnswer card ≡ Declared source → following card ≡ drop (cardBytes card) card
+-- What follows a card begins after its bytes where its answer says so, as that of an accepted card does.
+pub after-bytes : (card : List ℕ) {answer : SourceAnswer} → cardAnswer card ≡ answer → endAfter answer card ≡ cardBytes card
+    → following card ≡ drop (cardBytes card) card
 unfolding following
-after-card card h = simp h
+after-bytes card h e = rw (h, e)
+
+pub after-card : (card : List ℕ) {source : Source} → cardAnswer card ≡ Declared source → following card ≡ drop (cardBytes card) card
+after-card card h = after-bytes card h refl
 
 -- A card takes its bit map and at most two fields.
 at-least-one : (card : List ℕ) → 1 ≤ cardBytes card
@@ -147,6 +152,16 @@ at-least-one card = omega arith
 pub at-most-five : (card : List ℕ) → cardBytes card ≤ 5
 unfolding cardBytes
 at-most-five card = omega arith
+
+-- No card wants more than five bytes in all.
+pub wants-within : (card : List ℕ) → cardWants card ≤ 5 - length card
+wants-within card = go (outcome card)
+  where
+    go : Outcome card → cardWants card ≤ 5 - length card
+    go (empty l e w) = omega arith
+    go (unknown l u e w) = omega arith
+    go (cut l u s e w) = omega (arith, at-most-five card)
+    go (complete u l e w) = omega arith
 
 -- What a field leaves of the next choice: its own value where it is known.
 abbrev pub choice : Bool → ℕ → ℕ → ℕ
@@ -239,20 +254,20 @@ module _ (card more : List ℕ) where
       go (empty l e w) = absurd (omega arith)
       go (unknown l u e w) = rw e (simp (some l, same-unknown l ∙ u))
       go (cut l u s e w) = absurd (omega arith)
-      go (outside u l f e w) =
+      go (complete u l e w) =
           let first = some-byte l in
-          rw e (simp (some first, same-unknown first ∙ u, uncut l, same-fields l ∙ f))
-      go (taken u l f e w) =
-          let first = some-byte l in
-          rw e (simp (some first, same-unknown first ∙ u, uncut l, same-fields l ∙ f, same-peak l, same-format first))
+          rw e (simp (some first, same-unknown first ∙ u, uncut l, same-fields l, same-peak l, same-format first))
 
-  -- What comes after an accepted card's bytes follows the card.
-  pub follows : {source : Source} → cardAnswer card ≡ Declared source → following (card ++ more) ≡ following card ++ more
-  follows {source} h =
-      let whole = accepted card h .0 in
-      let joined = after-card (card ++ more) (settled (wants-none card h) ∙ h) in
+  -- What comes after such a card's bytes follows the card.
+  follows-by : {answer : SourceAnswer} → cardAnswer card ≡ answer → ((x : List ℕ) → endAfter answer x ≡ cardBytes x) → cardWants card ≡ 0
+      → cardBytes card ≤ length card → following (card ++ more) ≡ following card ++ more
+  follows-by h e wanted whole =
+      let joined = after-bytes (card ++ more) (settled wanted ∙ h) (e (card ++ more)) in
       let bytes = ap (λ (n : ℕ). drop n (card ++ more)) (same-bytes (some-byte whole)) in
-      joined ∙ bytes ∙ drop-append-le (cardBytes card) card more whole ∙ rw (after-card card h)
+      joined ∙ bytes ∙ drop-append-le (cardBytes card) card more whole ∙ rw (after-bytes card h (e card))
+
+  pub follows : {source : Source} → cardAnswer card ≡ Declared source → following (card ++ more) ≡ following card ++ more
+  follows h = follows-by h (λ x. refl) (wants-none card h) (accepted card h .0)
 
   -- Fewer bytes than a card wants leave it wanting the others.
   pub wants-on : length more < cardWants card → cardWants (card ++ more) ≡ cardWants card - length more
@@ -264,8 +279,7 @@ module _ (card more : List ℕ) where
       go (unknown l u e w) = absurd (omega arith)
       go (cut l u s e w) =
           simp (ne-eqb (length (card ++ more)) 0 (omega (arith, longer)), same-unknown l ∙ u) (omega (arith, longer, same-bytes l))
-      go (outside u l f e w) = absurd (omega arith)
-      go (taken u l f e w) = absurd (omega arith)
+      go (complete u l e w) = absurd (omega arith)
 
   -- No more bytes than a card wants leave none over.
   pub none-over : 0 < cardWants card → length more ≤ cardWants card → length (card ++ more) ≤ cardBytes (card ++ more)
@@ -275,5 +289,4 @@ module _ (card more : List ℕ) where
       go (empty l e w) = omega (arith, longer, at-least-one (card ++ more))
       go (unknown l u e w) = absurd (omega arith)
       go (cut l u s e w) = omega (arith, longer, same-bytes l)
-      go (outside u l f e w) = absurd (omega arith)
-      go (taken u l f e w) = absurd (omega arith)
+      go (complete u l e w) = absurd (omega arith)

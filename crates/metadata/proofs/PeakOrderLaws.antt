@@ -15,7 +15,7 @@ use Rattle.metadata.specs.Card.{stands, maxCLL, masteringPeak, cardBytes
 use Rattle.metadata.specs.Card.{cardAnswer, endAfter, following}
 use Rattle.metadata.specs.declared.SourceAnswer.{SourceAnswer}
 use Rattle.metadata.specs.declared.SourceAnswer.the-variants.{Declared, Refused}
-use Rattle.metadata.proofs.CardLaws.{Outcome, empty, unknown, cut, outside, taken, outcome, or-false, known-in-range}
+use Rattle.metadata.proofs.CardLaws.{accepted, or-false, known-in-range}
 
 -- the peak of before, where a known mastering peak decided before unconstrained
 unfoldable pub formerPeak : List ℕ → ℕ
@@ -79,18 +79,18 @@ orders-part card fields accepted =
         inr (simp (p, q, r) (omega (arith, range r .1)))
 
 changed-or-same : (card : List ℕ) → Changed card ⊎ (cardAnswer card ≡ formerAnswer card)
-changed-or-same card = go (outcome card)
+changed-or-same card = go (cardAnswer card) refl
   where
     same : cardAnswer card ≡ Declared (declared card) → Changed card ⊎ (peak card ≡ formerPeak card) → Changed card ⊎ (cardAnswer card ≡ formerAnswer card)
     same e (inl h) = inl h
     same e (inr h) = inr (rw e (rw h))
 
-    go : Outcome card → Changed card ⊎ (cardAnswer card ≡ formerAnswer card)
-    go (empty l e w) = inr (rw e)
-    go (unknown l u e w) = inr (rw e)
-    go (cut l u s e w) = inr (rw e)
-    go (outside u l f e w) = inr (rw e)
-    go (taken u l f e w) = same e (orders-part card f e)
+    go : (answer : SourceAnswer) → cardAnswer card ≡ answer → Changed card ⊎ (cardAnswer card ≡ formerAnswer card)
+    go (Declared source) e =
+        let a = accepted card e in
+        let declares = e ∙ ap Declared (a .2) in
+        same declares (orders-part card (a .1) declares)
+    go (Refused number) e = inr (rw e)
 
 differs : (card : List ℕ) → Changed card → cardAnswer card ≡ formerAnswer card → ⊥
 differs card h same =

@@ -13,8 +13,7 @@ use Rattle.quantity.specs.declared.Source.{Source}
 use Rattle.metadata.specs.Card.{cardBytes, cardAnswer, following, cardWants}
 use Rattle.metadata.specs.declared.SourceAnswer.{SourceAnswer}
 use Rattle.metadata.specs.declared.SourceAnswer.the-variants as card
-use Rattle.metadata.proofs.CardLaws.{Outcome, empty, unknown, cut, outside, taken, outcome, wants-none, after-card, at-most-five}
-use Rattle.metadata.proofs.CardLaws.{same-number, settled, follows, wants-on, none-over}
+use Rattle.metadata.proofs.CardLaws.{wants-none, after-card, at-most-five, wants-within, same-number, settled, follows, wants-on, none-over}
 use Rattle.title.specs.declared.opening.Opening.{Opening}
 use Rattle.title.specs.declared.opening.Opening.the-variants.{Rows, Refused}
 use Rattle.title.specs.Opening.{width, widthRefused, widthAnswer, answerAfter, openingAnswer, rowsOf, askedAfter, bytesAsked}
@@ -30,16 +29,13 @@ answer-by opening h = rw h
 
 -- an opening takes at most seven bytes
 pub asked-within : (opening : List ℕ) → length opening ≤ 7 → length opening + bytesAsked opening ≤ 7
-asked-within opening h = go (outcome opening)
+asked-within opening h = go (cardAnswer opening) refl
   where
-    go : Outcome opening → length opening + bytesAsked opening ≤ 7
-    go (empty l e w) = omega (arith, asked-by opening e)
-    go (unknown l u e w) = omega (arith, asked-by opening e)
-    go (cut l u s e w) = omega (arith, asked-by opening e, at-most-five opening)
-    go (outside u l f e w) = omega (arith, asked-by opening e)
-    go (taken u l f e w) =
+    go : (a : SourceAnswer) → cardAnswer opening ≡ a → length opening + bytesAsked opening ≤ 7
+    go (card.Declared source) e =
         let rest = simp length-drop at (ap length (after-card opening e)) in
         omega (arith, asked-by opening e, at-most-five opening)
+    go (card.Refused number) e = omega (arith, asked-by opening e, wants-within opening)
 
 narrow-in : (bytes : List ℕ) (a b c : Bool) → ltb (length bytes) 2 ≡ a → eqb (width bytes) 0 ≡ b → ltb 8192 (width bytes) ≡ c → widthRefused bytes ≡ false
     → (a ≡ false) × (b ≡ false) × (c ≡ false)
