@@ -8,6 +8,7 @@ from .light import END, LAST, N, STEPS, guess
 from .samples import draw_pixel
 
 DAMAGE_PEAK = b"\x01\x03\xe8"                   # MaxCLL 1,000
+UNCONSTRAINED = b"\x04"                        # names a peak in one byte
 WHITE, RED, BLACK = (723, 723, 723), (723, 64, 64), (64, 64, 64)
 CORNERS = (BLACK, RED, (64, 723, 64), (64, 64, 723), (723, 723, 64), (64, 723, 723),
            (723, 64, 723), WHITE)
@@ -83,8 +84,8 @@ def refused_cards():
 def refused_widths():
     """Refusal 10."""
     yield "width_missing", DAMAGE_PEAK
-    yield "width_missing_after_bit_map", b"\x00"
-    yield "width_missing_after_maxcll_zero", maxcll(0)
+    yield "width_missing_after_bit_map", UNCONSTRAINED
+    yield "width_missing_after_maxcll_zero", b"\x05" + word(0)
     yield "width_missing_low_byte", DAMAGE_PEAK + b"\x00"
     yield "width_missing_low_byte_of_8192", DAMAGE_PEAK + b"\x20"
     yield "width_zero", title(DAMAGE_PEAK, 0)
@@ -119,7 +120,7 @@ def accepted_titles():
     """Titles that convert whole."""
     yield "sample", bytes.fromhex("01 03 E8 00 02 02 D3 02 D3 02 D3 02 D3 00 40 00 40")
     yield "title_without_rows", title(DAMAGE_PEAK, 2)
-    yield "title_without_rows_width_8192", title(b"\x00", 8_192)
+    yield "title_without_rows_width_8192", title(UNCONSTRAINED, 8_192)
     yield "corner_pixels_peak_1000", title(maxcll(1_000), 8, row(*CORNERS))
     yield "corner_pixels_one_a_row", title(maxcll(1_000), 1, *map(row, CORNERS))
     yield "grey_65_peak_1000", title(maxcll(1_000), 1, row((65, 65, 65)))
@@ -194,7 +195,7 @@ def titles():
 
 def measured_titles():
     """Titles of `measure` alone: what is brightest, and which of equals; the card plays no part."""
-    card = b"\x00"
+    card = UNCONSTRAINED
     grey = {D: (D, D, D) for D in (4, 63, 64, 65, 500, 800, 939, 940, 941, 1_019)}
     for D in (4, 63, 64, 65, 66, 509, 721, 722, 723, 724, 938, 939, 940, 941, 1_019):
         yield f"brightest_code_{D}", title(card, 1, row((D, D, D)))

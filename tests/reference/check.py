@@ -22,7 +22,7 @@ from struct import pack, unpack
 from . import (content_light, curve, display_light, exact, hlg, light, linear, linear_cases, measure, metadata, program, returned, row, sample_format,
                scene_light)
 from .cases import CORNER_CODES, CORNERS, UNIT_PIXELS, row as row_bytes, row_calls, title, word, ycbcr_codes
-from .format_cases import LIMITS, POSITION_PIXELS, UNREAD, format_row_calls
+from .format_cases import LIMITS, POSITION_PIXELS, UNREAD, card as maxcll_card, format_row_calls
 from .light import A, BRIGHTEST, END, LAST, N, P, STEPS
 from .pixel import convert_pixel, hlg_codes, mapped_components
 from .refusal import Refused
@@ -622,7 +622,7 @@ def measure_answers():
     answers = (
         ("no input", b"", "refused 1"), ("an unknown bit", b"\x20", "refused 2"), ("a cut card", b"\x01", "refused 3"),
         ("a field above 10,000", b"\x01\x27\x11", "refused 4"), ("no width", card, "refused 10"), ("width 0", title(card, 0), "refused 10"),
-        ("a field of 0 and no width", b"\x01\0\0", "refused 10"), ("a field of 0", title(b"\x01\0\0", 1, white), "1005 0 0"),
+        ("a field of 0 and no width", b"\x05\0\0", "refused 10"), ("a field of 0", title(b"\x05\0\0", 1, white), "1005 0 0"),
         ("no rows", title(card, 8_192), "refused 12"), ("a cut row", title(card, 1, white, cut), "refused 11"),
         ("a bad row", title(card, 1, white, bad, white), "refused 9"), ("a bad and cut row", title(card, 2, bad, cut), "refused 11"),
         ("a cut row after a bad one", title(card, 1, bad, cut), "refused 9"), ("two rows", title(card, 1, white, brighter), "2249 1 0"),
@@ -900,10 +900,10 @@ def format_cards():
 def format_titles():
     for form, lines, peak in ((TEN_NARROW, b"913 913 913\n", 1_005), (TWELVE_NARROW, b"138 138 138\n", 1), (TEN_FULL, b"879 879 879\n", 661),
                               (TWELVE_FULL, b"169 169 169\n", 2)):
-        data = title(bytes([form.number]), 1, row_bytes(grey(723)))
+        data = title(maxcll_card(form, 4_000), 1, row_bytes(grey(723)))
         yield f"{form}: code 723 prints {lines!r} and measures {peak}", (
             converted(data) == lines and measured(data) == b"%d 0 0\n" % peak)
-        refused = title(bytes([form.number]), 1, row_bytes(grey(500)), row_bytes(grey(form.taken[-1] + 1)))
+        refused = title(maxcll_card(form, 4_000), 1, row_bytes(grey(500)), row_bytes(grey(form.taken[-1] + 1)))
         yield f"{form}: a sample past the highest stops both programs", (
             converted(refused).endswith(b"\nrefused 9\n") and measured(refused) == b"refused 9\n")
 

@@ -67,7 +67,7 @@ def format_cards():
         yield f"{name}_mastering_peak_1200_unconstrained", bytes([bits | 6]) + word(1_200) + good
         yield f"{name}_card_cut_in_maxcll", bytes([bits | 1, 3])
         yield f"{name}_mastering_peak_10001", bytes([bits | 2]) + word(10_001) + good
-        yield f"width_missing_after_{name}", bytes([bits])
+        yield f"width_missing_after_{name}", bytes([bits | 4])
 
 
 def format_titles():
@@ -93,7 +93,7 @@ def format_titles():
 def measured_format_titles():
     """Titles of `measure` alone: the brightest code, and codes of one light beyond black and the nominal peak."""
     for form, name in NAMES.items():
-        opening, black, white = bytes([form.number]), form.black, form.white
+        opening, black, white = bytes([form.number | 4]), form.black, form.white
         middle = form.nominal[len(form.nominal) // 2]
         for D in dict.fromkeys((*ends_of(form), black + 2, middle, knee_code(1_000, form) - 1, knee_code(1_000, form))):
             yield f"{name}_brightest_code_{D}", title(opening, 1, row(grey(D)))
