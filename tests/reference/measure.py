@@ -8,7 +8,8 @@ import sys
 from .content_light import measure
 from .refusal import Refused
 from .row import MOST_ROWS
-from .title import input_of, read_opening, read_rows
+from .streams import input_of
+from .title import read_opening, read_rows
 
 
 def measure_title(read, write, most_rows=MOST_ROWS):

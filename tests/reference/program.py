@@ -8,7 +8,8 @@ import sys
 from .pixel import hlg_codes
 from .refusal import Refused
 from .row import MOST_ROWS, pixels_of, samples_of
-from .title import input_of, read_opening, read_rows
+from .streams import input_of
+from .title import read_opening, read_rows
 
 
 def lines_of(source, row):

@@ -1,7 +1,5 @@
 """Document 01, "Cards, rows, program", with request 06: a title as the programs read it, from its first byte to its last row."""
 
-import sys
-
 from .metadata import card_length, has_unknown_bit, source_of_metadata
 from .refusal import Refused, refuse_samples
 from .row import MOST_ROWS, PIXEL_BYTES, WIDEST, samples_of
@@ -39,16 +37,3 @@ def read_rows(read, width, form, most_rows=MOST_ROWS):
             raise Refused(11)
         refuse_samples(samples_of(row), form)
         yield row
-
-
-def input_of(program):
-    """Reads standard input: `read(n)` gives n bytes, fewer only at its end. A read error counts as the end; it is told on standard error."""
-    def read(n):
-        data = b""
-        try:
-            while len(data) < n and (part := sys.stdin.buffer.read1(n - len(data))):
-                data += part
-        except OSError as error:
-            print(f"{program}: {error}", file=sys.stderr)
-        return data
-    return read
