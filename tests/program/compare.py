@@ -29,7 +29,7 @@ CHEAP = 64                               # pixels that are converted as well, ev
 BATCH = 2_000                            # records of one run
 PATIENCE = 60                            # seconds that a run may take before it counts as hanging
 
-ANSWERS = {"measured", *(f"refused {number}" for number in (1, 2, 3, 4, 9, 10, 11, 12))}
+ANSWERS = {"measured", *(f"refused {number}" for number in (1, 2, 3, 4, 17, 9, 10, 11, 12))}
 RECORD_ANSWERS = {"accepted", *(f"refused {number}" for number in (6, 9, 12, 13))}
 
 

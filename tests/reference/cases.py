@@ -15,6 +15,8 @@ CORNERS = (BLACK, RED, (64, 723, 64), (64, 64, 723), (723, 723, 64), (64, 723, 7
 CORNER_CODES = ((64, 64, 64), (976, 64, 64), (64, 950, 64), (64, 64, 1_015), (942, 942, 64),
                 (64, 948, 948), (970, 64, 970), (940, 940, 940))    # what these become, document 002's RGB columns
 
+BRIGHT = ((700, 720, 740), (800, 64, 64), (940, 900, 1_019))        # these tell peaks apart
+
 # Pixels of which a code hangs on one unit of a light, by peak; under the peaks above 1,000 cd/m2 all are bent. Found by trying all codes from 64 to 940.
 UNIT_PIXELS = {
     1_000: ((82, 82, 595), (86, 145, 86), (185, 185, 844), (351, 351, 138), (130, 123, 204), (349, 218, 375), (363, 238, 514),
@@ -64,6 +66,7 @@ def refused_cards():
     yield "reserved_bit_7_with_all_others", b"\x9f" + word(1_000) + word(2_000) + good
     yield "card_cut_before_maxcll", b"\x01"
     yield "card_cut_in_maxcll", b"\x01\x03"
+    yield "card_cut_in_maxcll_of_high_byte_zero", b"\x01\x00"
     yield "card_cut_before_mastering_peak", b"\x02"
     yield "card_cut_in_mastering_peak", b"\x02\x0f"
     yield "card_cut_after_maxcll", b"\x03\x03\xe8"
@@ -79,6 +82,22 @@ def refused_cards():
     yield "maxcll_10001_beside_mastering_peak_zero", b"\x03" + word(10_001) + word(0) + good
     yield "mastering_peak_10001_unconstrained", b"\x06" + word(10_001) + good
     yield "unconstrained_card_cut_in_mastering_peak", b"\x06\x0f"
+
+
+def unnamed_peaks():
+    """Refusal 17, whatever follows the card; the rows are those of `named_peaks`, so that a title can be rewritten to one of them."""
+    zero, bright = word(0), row(*BRIGHT)
+    for name, card in (("", b"\x00"), ("_maxcll_zero", b"\x01" + zero), ("_mastering_peak_zero", b"\x02" + zero),
+                       ("_maxcll_zero_mastering_peak_zero", b"\x03" + zero + zero)):
+        yield "no_peak_named" + name, title(card, 3, bright)
+        yield f"no_peak_named{name}_alone", card
+    yield "no_peak_named_and_one_byte", b"\x00\x04"
+    yield "no_peak_named_maxcll_zero_and_one_byte", b"\x01" + zero + b"\x04"
+    yield "no_peak_named_width_zero", title(b"\x00", 0, bright)
+    yield "no_peak_named_width_8193", title(b"\x03" + zero + zero, 8_193, bright)
+    yield "no_peak_named_without_rows", title(b"\x02" + zero, 8_192)
+    yield "no_peak_named_row_cut", title(b"\x01" + zero, 3, bright, bright[:-1])
+    yield "no_peak_named_bad_sample", title(b"\x00", 3, bright, bright[:-2] + word(1_020))
 
 
 def refused_widths():
@@ -140,9 +159,7 @@ def accepted_titles():
 
 def named_peaks():
     """Where the peak comes from; the same bright pixels under each card."""
-    pixels = row((700, 720, 740), (800, 64, 64), (940, 900, 1_019))
     cards = (
-        ("no_peak_named", b"\x00"),
         ("unconstrained", b"\x04"),
         ("mastering_peak_2000", b"\x02" + word(2_000)),
         ("mastering_peak_2000_unconstrained", b"\x06" + word(2_000)),
@@ -154,9 +171,6 @@ def named_peaks():
         ("mastering_peak_1", b"\x02" + word(1)),
         ("mastering_peak_10000", b"\x02" + word(10_000)),
         # request 02: a field of 0 is not known
-        ("maxcll_zero", maxcll(0)),
-        ("mastering_peak_zero", b"\x02" + word(0)),
-        ("maxcll_zero_mastering_peak_zero", b"\x03" + word(0) + word(0)),
         ("maxcll_zero_mastering_peak_4000", b"\x03" + word(0) + word(4_000)),
         ("maxcll_zero_mastering_peak_2000", b"\x03" + word(0) + word(2_000)),
         ("maxcll_1000_mastering_peak_zero", b"\x03" + word(1_000) + word(0)),
@@ -173,7 +187,7 @@ def named_peaks():
         ("maxcll_1000_mastering_peak_4000_unconstrained", b"\x07" + word(1_000) + word(4_000)),
     )
     for name, card in cards:
-        yield "peak_" + name, title(card, 3, pixels)
+        yield "peak_" + name, title(card, 3, row(*BRIGHT))
 
 
 def wide_rows():
@@ -188,13 +202,13 @@ def wide_rows():
 
 
 def titles():
-    """All named inputs of `convert`, which `measure` reads too."""
-    for group in (accepted_titles, named_peaks, wide_rows, refused_cards, refused_widths, refused_rows):
+    """All named inputs of `convert`, which `measure` and `rewrite` read too."""
+    for group in (accepted_titles, named_peaks, wide_rows, refused_cards, unnamed_peaks, refused_widths, refused_rows):
         yield from group()
 
 
 def measured_titles():
-    """Titles of `measure` alone: what is brightest, and which of equals; the card plays no part."""
+    """Titles that `convert` is not run on: what is brightest, and which of equals; the card plays no part."""
     card = UNCONSTRAINED
     grey = {D: (D, D, D) for D in (4, 63, 64, 65, 500, 800, 939, 940, 941, 1_019)}
     for D in (4, 63, 64, 65, 66, 509, 721, 722, 723, 724, 938, 939, 940, 941, 1_019):
@@ -233,10 +247,11 @@ def measured_titles():
 
 
 def cards():
-    """Openings of titles for the two card calls: every bit map, whole, cut and with odd fields."""
+    """Openings of titles for the three card calls: every bit map, whole, cut and with odd fields."""
     for bits in range(256):
         yield bytes([bits]) + word(1_000) + word(2_000) + b"\x77"
-    for name, data in (*refused_cards(), *named_peaks()):
+        yield bytes([bits]) + word(0) + word(0) + b"\x77"
+    for name, data in (*refused_cards(), *unnamed_peaks(), *named_peaks()):
         yield data[:8]
     for bits in range(32):
         for first, second in ((1, 10_000), (10_000, 1), (0, 1), (1, 0), (10_001, 1), (1, 10_001), (256, 257),
@@ -244,6 +259,7 @@ def cards():
             yield bytes([bits]) + word(first) + word(second)
         for length in range(6):
             yield (bytes([bits]) + word(1_234) + word(5_678))[:length]
+            yield bytes([bits, 0, 0, 0, 0])[:length]
     # 2 comes before 3 and 4, with bits 3 and 4 and without them
     for bits in (0x21, 0x2B, 0x33, 0x5A, 0x9F, 0xE3, 0xFF):
         for length in (1, 2, 4):

@@ -1,4 +1,4 @@
-"""Every number that document 01 and requests 01 to 11 name, and the laws between their parts.
+"""Every number that document 01 and requests 01 to 12 name, and the laws between their parts.
 
     python3 -m tests.reference.check
 
@@ -19,10 +19,10 @@ from pathlib import Path
 from random import Random
 from struct import pack, unpack
 
-from . import (content_light, curve, display_light, exact, hlg, light, linear, linear_cases, measure, metadata, program, returned, row, sample_format,
-               scene_light)
-from .cases import CORNER_CODES, CORNERS, UNIT_PIXELS, row as row_bytes, row_calls, title, word, ycbcr_codes
-from .format_cases import LIMITS, POSITION_PIXELS, UNREAD, card as maxcll_card, format_row_calls
+from . import (content_light, curve, display_light, exact, hlg, light, linear, linear_cases, measure, metadata, program, returned, rewrite, row,
+               sample_format, scene_light)
+from .cases import CORNER_CODES, CORNERS, UNIT_PIXELS, row as row_bytes, row_calls, title, titles, word, ycbcr_codes
+from .format_cases import LIMITS, POSITION_PIXELS, UNREAD, card as maxcll_card, format_row_calls, format_titles as cases_of_formats
 from .light import A, BRIGHTEST, END, LAST, N, P, STEPS
 from .pixel import convert_pixel, hlg_codes, mapped_components
 from .refusal import Refused
@@ -33,7 +33,7 @@ from .sample_format import FORMATS, FULL_RANGE, TEN_FULL, TEN_NARROW, TWELVE_BIT
 from .samples import MARKED_PEAKS, draw_measured_row, draw_palette, draw_peaks, draw_pixel
 from .scene_light import S
 from .survey import LINEAR, bound, draw_linear, in_inner_zone, quick_distance
-from .vectors import FILL, converted, measured
+from .vectors import FILL, converted, measured, rewriting_line, rewritten
 from .ycbcr import by_fractions, convert_codes, luma_sum, round_away, unrounded, ycbcr
 
 ROOT = Path(__file__).resolve().parents[2]
@@ -354,18 +354,18 @@ def cards():
     answers = (
         ("", (1, 0)), ("20", (2, 0)), ("80", (2, 0)), ("21", (2, 0)), ("01", (3, 0)), ("0103", (3, 0)), ("0303e8", (3, 0)), ("032711", (3, 0)),
         ("012711", (4, 0)), ("0303e82711", (4, 0)), ("0103e8", 1_000), ("020fa0", 4_000), ("0303e80fa0", 1_000), ("04", 10_000),
-        ("060fa0", 10_000), ("0507d0", 2_000), ("0703e80fa0", 1_000), ("00", 4_000), ("010001", 1), ("012710", 10_000))
+        ("060fa0", 10_000), ("0507d0", 2_000), ("0703e80fa0", 1_000), ("00", (17, 0)), ("010001", 1), ("012710", 10_000))
     for text, answer in answers:
         yield f"card {text or 'empty'}: {answer}", declared(text) == answer
     yield "what follows a card", metadata.after_metadata(bytes.fromhex("0303e80fa0c0ffee")) == b"\xc0\xff\xee"
-    yield "nothing follows a refused card", all(
+    yield "nothing follows a card refused by 1 to 4", all(
         metadata.after_metadata(bytes.fromhex(text)) == b"" for text in ("", "20ff", "0103", "012711ff"))
 
 
 def zero_fields():
     """Request 02: a card with a field of 0 answers as the one whose bit is clear and whose two bytes are gone."""
     answers = (
-        ("010000", 4_000), ("020000", 4_000), ("0300000000", 4_000), ("0300000fa0", 4_000), ("03000007d0", 2_000), ("0303e80000", 1_000),
+        ("010000", (17, 0)), ("020000", (17, 0)), ("0300000000", (17, 0)), ("0300000fa0", 4_000), ("03000007d0", 2_000), ("0303e80000", 1_000),
         ("050000", 10_000), ("060000", 10_000), ("0700000000", 10_000), ("030000", (3, 0)), ("0300002711", (4, 0)), ("0327110000", (4, 0)))
     for text, answer in answers:
         yield f"card {text}: {answer}", declared(text) == answer
@@ -388,10 +388,10 @@ def unconstrained_first():
         yield f"card {text}: {answer}", declared(text) == answer
 
     def former(card):
-        """The peak by the order of before."""
+        """The peak by the order of before, with the refusals of now: what is left without a known field is unconstrained."""
+        metadata.peak_of_metadata(card)
         fields = {bit: value for bit, value in metadata.card_fields(card).items() if value != 0}
-        otherwise = 10_000 if card[0] & metadata.UNCONSTRAINED else 4_000
-        return fields.get(metadata.MAXCLL, fields.get(metadata.MASTERING_PEAK, otherwise))
+        return fields.get(metadata.MAXCLL, fields.get(metadata.MASTERING_PEAK, 10_000))
 
     def named(card):
         """Whether the request names the card as one whose answer changes."""
@@ -405,6 +405,81 @@ def unconstrained_first():
     changed = [card for card in every if outcome(metadata.peak_of_metadata, card) != outcome(former, card)]
     yield "the answers that change are those named", changed and changed == [card for card in every if named(card)]
     yield "they are 10,000 now", all(metadata.peak_of_metadata(card) == 10_000 for card in changed)
+
+
+def peak_before(card):
+    """The peak as it was chosen before request 12, refusals 1 to 4."""
+    fields = {bit: value for bit, value in metadata.card_fields(card).items() if value != 0}
+    unmeasured = 10_000 if card[0] & metadata.UNCONSTRAINED else fields.get(metadata.MASTERING_PEAK, 4_000)
+    return fields.get(metadata.MAXCLL, unmeasured)
+
+
+@contextmanager
+def peaks_as_before():
+    """Programs that read cards by the choice of before, for a while."""
+    kept = metadata.peak_of_metadata
+    metadata.peak_of_metadata = peak_before
+    try:
+        yield
+    finally:
+        metadata.peak_of_metadata = kept
+
+
+def own_bytes(card):
+    """How many bytes a card has of its own, by its bit map."""
+    return 1 + 2 * (card[0] & 1) + (card[0] & 2)
+
+
+def names_none(card):
+    """Whether a card is whole and names no peak: no bit is set but those of fields and of the format, and no byte of a field."""
+    return bool(card) and not card[0] & 0b1110_0100 and len(card) >= own_bytes(card) and not any(card[1:own_bytes(card)])
+
+
+def cards_with_fields(*values):
+    """Every bit map with each two of some fields, whole, cut, and with bytes behind it."""
+    whole = [bytes([bits]) + word(first) + word(second) for bits in range(256) for first in values for second in values]
+    return [*whole, *dict.fromkeys(card[:length] for card in whole for length in range(5)), *(card + b"\0\1\2" for card in whole)]
+
+
+def no_peak_named():
+    """Request 12: 17 refuses a whole card that names no peak; by every bit map, no other answer than these changes, and they were 4,000."""
+    answers = (
+        ("00", (17, 0)), ("08", (17, 0)), ("10", (17, 0)), ("18", (17, 0)), ("010000", (17, 0)), ("020000", (17, 0)), ("0300000000", (17, 0)),
+        ("1b00000000", (17, 0)), ("04", 10_000), ("1c", 10_000), ("050000", 10_000), ("060000", 10_000), ("0700000000", 10_000), ("0300000fa0", 4_000),
+        ("0300010000", 1), ("010001", 1), ("020001", 1), ("0100", (3, 0)), ("030000", (3, 0)), ("03000000", (3, 0)), ("0300002711", (4, 0)),
+        ("0327110000", (4, 0)), ("20", (2, 0)), ("210000", (2, 0)), ("e3", (2, 0)), ("", (1, 0)))
+    for text, answer in answers:
+        yield f"card {text or 'empty'}: {answer}", declared(text) == answer
+    every = cards_with_fields(0, 1, 4_000, 9_999, 10_000, 10_001, 65_535)
+    changed = [card for card in every if outcome(metadata.peak_of_metadata, card) != outcome(peak_before, card)]
+    yield "the answers that change are those of the cards that name none", changed and changed == [card for card in every if names_none(card)]
+    yield "they are refused by 17 now", all(refusal(metadata.peak_of_metadata, card) == (17, 0) for card in changed)
+    yield "17 is not given to others", changed == [card for card in every if refusal(metadata.peak_of_metadata, card) == (17, 0)]
+    yield "they were 4,000", all(peak_before(card) == 4_000 for card in changed)
+    yield "what follows is decided by 1 to 4 alone and begins after the card's own bytes", all(
+        metadata.after_metadata(card) == (card[own_bytes(card):] if refusal(peak_before, card) is None else b"") for card in every)
+
+
+def rewritten_cards():
+    """Request 12: the three bytes, by number and by every bit map."""
+    answers = (
+        ("00", "020fa0"), ("08", "0a0fa0"), ("10", "120fa0"), ("18", "1a0fa0"), ("010000", "020fa0"), ("020000", "020fa0"), ("0300000000", "020fa0"),
+        ("1b00000000", "1a0fa0"), ("0003e8", "020fa0"), ("190000ffff", "1a0fa0"), ("04", None), ("050000", None), ("0300000fa0", None), ("010001", None),
+        ("020fa0", None), ("1a0fa0", None), ("", (1, 0)), ("20", (2, 0)), ("3b00000000", (2, 0)), ("0100", (3, 0)), ("0b0000", (3, 0)), ("0300002711", (4, 0)))
+    for text, answer in answers:
+        wanted = bytes.fromhex(answer) if isinstance(answer, str) else answer
+        yield f"card {text or 'empty'} is rewritten: {answer}", outcome(metadata.rewritten_opening, bytes.fromhex(text)) == wanted
+    every = cards_with_fields(0, 1, 4_000, 10_000, 10_001)
+    openings = {card: outcome(metadata.rewritten_opening, card) for card in every}
+    yield "cards that are refused by 17 are rewritten, those that name a peak are not, others are refused as before", all(
+        isinstance(opening, bytes) if names_none(card) else opening == refusal(peak_before, card) for card, opening in openings.items())
+    pairs = [(card, opening, opening + metadata.after_metadata(card)) for card, opening in openings.items() if isinstance(opening, bytes)]
+    yield "three bytes: bit 1 set, bits 3 and 4 kept, all others clear, and 4,000", all(
+        opening == bytes([card[0] & 0b1_1000 | 0b10, 4_000 // 256, 4_000 % 256]) for card, opening, _ in pairs)
+    yield "before what followed they are accepted with a peak of 4,000 in the depth and range of before", all(
+        metadata.source_of_metadata(after) == (4_000, format_of(card[0])) for card, _, after in pairs)
+    yield "and the same bytes follow", all(metadata.after_metadata(after) == metadata.after_metadata(card) for card, _, after in pairs)
+    yield "there is nothing to rewrite in them", all(metadata.rewritten_opening(after) is None for *_, after in pairs)
 
 
 def rows():
@@ -445,7 +520,8 @@ def program_answers():
         ("a bad row", title(card, 1, white, bad, white), lines + b"refused 9\n"),
         ("a bad and cut row", title(card, 2, bad, cut), b"refused 11\n"),
         ("a cut row after a bad one", title(card, 1, bad, cut), b"refused 9\n"),
-        ("none of a refused row", title(card, 2, white, bad), b"refused 9\n"))
+        ("none of a refused row", title(card, 2, white, bad), b"refused 9\n"),
+        ("no peak named and no width", b"\0", b"refused 17\n"), ("no peak named and width 0", title(b"\2\0\0", 0), b"refused 17\n"))
     for name, data, printed in answers:
         yield f"{name} prints {printed!r}", converted(data) == printed
     sample = bytes.fromhex("0103E8 0002 02D302D302D3 02D300400040")
@@ -459,6 +535,80 @@ def program_answers():
         program.convert_title(source.read, out.append, limit)
         yield f"at most {limit} rows, what follows stays unread", (
             "".join(out).encode() == answer and source.tell() == 5 + 6 * limit)
+
+
+def small_rests(form):
+    """What can follow a card: widths that are missing, cut and refused, sound rows, and such as are refused by 11 and by 9."""
+    bright = [form.step * D for D in (700, 740, 800)]
+    good, bad = row_bytes(bright, grey(form.white)), row_bytes(bright, grey(form.taken[-1] + 1))
+    return (b"", b"\0", b"\1", word(0), word(0) + good, word(8_193) + good, word(8_192), word(2), word(2) + good, word(2) + good + good[:7],
+            word(2) + good + good, word(2) + good + bad, word(2) + bad + good, word(1) + good, word(1) + bad, word(1) + good + b"\2",
+            word(10_001) + word(10_001) + good)
+
+
+def rewritten_titles():
+    """Request 12 through the programs: what was answered with 4,000 is refused, and answered as before once it is rewritten."""
+    cards = [(bytes([form.number | bits, *fields]), form) for form in FORMATS for bits, fields in ((0, b""), (1, word(0)), (2, word(0)), (3, bytes(4)))]
+    unnamed = [card + rest for card, form in cards for rest in small_rests(form)]
+    with peaks_as_before():
+        texts = [(converted(data), measured(data)) for data in unnamed]
+    ends = {text.splitlines()[-1] for text, _ in texts if text}
+    yield "some of them were converted, others refused by 9, by 10 and by 11", ends >= {b"refused 9", b"refused 10", b"refused 11"} and any(
+        not end.startswith(b"refused") for end in ends)
+    yield "both programs refuse them by 17", all(converted(data) == measured(data) == b"refused 17\n" for data in unnamed)
+    new = [rewritten(data) for data in unnamed]
+    yield "rewritten they are three bytes and all that followed, and nothing is told", new == [
+        (metadata.rewritten_opening(data) + data[own_bytes(data):], b"") for data in unnamed]
+    yield "rewritten they convert and measure to the text of before", [(converted(data), measured(data)) for data, _ in new] == texts
+    yield "rewritten again they stay as they are", all(rewritten(data) == (data, b"") for data, _ in new)
+    for card, _ in cards:
+        source = BytesIO(card + b"\0\1\2")
+        program.convert_title(source.read, [].append)
+        yield f"what follows card {card.hex()} stays unread", source.tell() == len(card)
+    named = [card + rest for form in FORMATS for card in (bytes([form.number | 4]), bytes([form.number | 5, 0, 0]), maxcll_card(form, 1_500),
+                                                          bytes([form.number | 3, 0, 0]) + word(2_000)) for rest in small_rests(form)]
+    yield "titles that name a peak are copied", all(rewritten(data) == (data, b"") for data in named)
+    with peaks_as_before():
+        texts = [(converted(data), measured(data)) for data in named]
+    yield "and convert and measure as before", texts == [(converted(data), measured(data)) for data in named]
+    for card, number in ((b"", 1), (b"\x20", 2), (b"\x60\x0f\xa0" + bytes(9), 2), (b"\x03\0\0\0", 3), (b"\x01\x27\x11" + bytes(9), 4)):
+        yield f"card {card.hex() or 'empty'} is refused by {number}: a line apart and no byte", rewritten(card) == (b"", b"refused %d\n" % number)
+
+
+def rewrite_program():
+    """Request 12: how the filter reads and writes."""
+    def long_title(card, length):
+        return (card + Random(length).randbytes(length))[:length]
+    for length in (1, 4, 5, 6, 65_540, 65_541, 65_542, 131_076, 131_077, 131_078):
+        for card, opening in ((b"\0", b"\x02\x0f\xa0"), (b"\x04", b"\x04")):
+            asked, blocks, data = [], [], BytesIO(long_title(card, length))
+            rewrite.rewrite_title(lambda n: asked.append(n) or data.read(n), blocks.append, blocks.append)
+            yield f"{length} bytes after card {card.hex()} are copied in blocks, five bytes first", (
+                b"".join(blocks) == opening + data.getvalue()[1:] and asked == [5] + [65_536] * len(blocks))
+    for card, left in ((b"\x20", 4), (b"\x01\x27\x11", 2), (b"\x03\x27\x11\0\0", 0)):
+        data = BytesIO(card + bytes(20))
+        rewrite.rewrite_title(data.read, None, str)
+        yield f"no more than five bytes of refused card {card.hex()} are read", data.tell() == len(card) + left == 5
+
+    def full(data):
+        raise OSError
+    for data, told in ((b"\0\1", "rewrite: the output could not be written to its end\n"), (b"\x20", "refused 2\n")):
+        lines = []
+        rewrite.rewrite_title(BytesIO(data).read, full, lines.append)
+        yield f"told of {data.hex()} where nothing can be written: {told!r}", lines == [told]
+    command = [sys.executable, "-B", "-m", "tests.reference.rewrite"]
+    for data, out, told in ((b"\x1b\0\0\0\0\0\1", b"\x1a\x0f\xa0\0\1", b""), (b"\4\0", b"\4\0", b""), (b"\1\0", b"", b"refused 3\n")):
+        run = subprocess.run(command, cwd=ROOT, input=data, capture_output=True)
+        yield f"{data.hex()} through the filter", (run.returncode, run.stdout, run.stderr) == (0, out, told)
+
+    def by_line(data, line):
+        """What a stored line says of a title."""
+        _, first, *more = line.split()
+        if first == "refused":
+            return b"", f"refused {more[0]}\n".encode()
+        return data if first == "same" else data.replace(bytes.fromhex(more[1]), bytes.fromhex(first), 1), b""
+    yield "what is stored of titles is what the filter gives", all(
+        rewritten(data) == by_line(data, rewriting_line(name, data)) for name, data in (*titles(), *cases_of_formats()))
 
 
 # Request 01: the measuring run
@@ -626,7 +776,7 @@ def measure_answers():
         ("no rows", title(card, 8_192), "refused 12"), ("a cut row", title(card, 1, white, cut), "refused 11"),
         ("a bad row", title(card, 1, white, bad, white), "refused 9"), ("a bad and cut row", title(card, 2, bad, cut), "refused 11"),
         ("a cut row after a bad one", title(card, 1, bad, cut), "refused 9"), ("two rows", title(card, 1, white, brighter), "2249 1 0"),
-        ("the card's peak is not used", title(b"\x04", 1, brighter, white), "2249 0 0"))
+        ("the card's peak is not used", title(b"\x04", 1, brighter, white), "2249 0 0"), ("no peak named", title(b"\0", 1, brighter), "refused 17"))
     for name, data, printed in answers:
         yield f"measure, {name}: {printed}", measured(data) == printed.encode() + b"\n"
     run = subprocess.run([sys.executable, "-B", "-m", "tests.reference.measure"], cwd=ROOT, input=title(card, 1, white), capture_output=True)
@@ -884,9 +1034,9 @@ def unread_bits():
 
 def format_cards():
     answers = (
-        ("08", (4_000, TWELVE_NARROW)), ("10", (4_000, TEN_FULL)), ("18", (4_000, TWELVE_FULL)), ("00", (4_000, TEN_NARROW)), ("1c", (10_000, TWELVE_FULL)),
+        ("0c", (10_000, TWELVE_NARROW)), ("14", (10_000, TEN_FULL)), ("1c", (10_000, TWELVE_FULL)), ("04", (10_000, TEN_NARROW)), ("18", (17, 0)),
         ("0903e8", (1_000, TWELVE_NARROW)), ("120fa0", (4_000, TEN_FULL)), ("1f03e80fa0", (1_000, TWELVE_FULL)), ("1b000007d0", (2_000, TWELVE_FULL)),
-        ("110000", (4_000, TEN_FULL)), ("09", (3, 0)), ("1b03e8", (3, 0)), ("092711", (4, 0)), ("1803e8", (4_000, TWELVE_FULL)),
+        ("150000", (10_000, TEN_FULL)), ("09", (3, 0)), ("1b03e8", (3, 0)), ("092711", (4, 0)), ("1803e8", (17, 0)), ("110000", (17, 0)),
         ("28", (2, 0)), ("38", (2, 0)), ("48", (2, 0)), ("9903", (2, 0)), ("f12711", (2, 0)))
     for text, answer in answers:
         yield f"card {text}: {answer}", outcome(metadata.source_of_metadata, bytes.fromhex(text)) == answer
@@ -1364,8 +1514,9 @@ def traps():
 
 LAWS = (light_table, nearest_light, light_of_codes, positions, spline_is_hermite, highlight_curve, published_patches, hlg_steps,
         hlg_code, shorter_products, published_constants, published_table, corner_pixels, other_examples, cards, zero_fields, unconstrained_first,
-        rows, program_answers, measured_numbers, measured_refusals, measured_lists, measured_codes, measured_records, measure_answers,
-        formats, order_of_codes, format_codes, format_limits, unread_bits, format_cards, format_titles, measured_formats, mixed_lists,
+        no_peak_named, rewritten_cards, rows, program_answers, rewritten_titles, rewrite_program, measured_numbers, measured_refusals, measured_lists,
+        measured_codes, measured_records, measure_answers, formats, order_of_codes, format_codes, format_limits, unread_bits, format_cards, format_titles,
+        measured_formats, mixed_lists,
         published_ycbcr, rounding_away, ycbcr_of_codes, halves_of_luma, halves_of_chroma, code_refusals, ycbcr_rows, scene_lights, fifth_roots,
         display_lights, pq_codes_of_lights, returned_pixels, hanging_colours, round_trip, return_refusals, return_rows, class_limits, every_pattern,
         whole_lights, linear_corners, linear_pixels, linear_greys, linear_refusals, linear_rows, linear_distance, distance, greys, traps)

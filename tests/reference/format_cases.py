@@ -6,7 +6,7 @@ A format stands here by its number, as a host in C gives it; that of a pixel, a 
 from itertools import product
 from random import Random
 
-from .cases import row, title, word
+from .cases import BRIGHT, row, title, word
 from .sample_format import FORMATS, TEN_FULL, TEN_NARROW, TWELVE_FULL, TWELVE_NARROW, format_of
 from .samples import beyond, code_of_peak, delicate_pixels, draw_peaks, draw_pixel, ends_of, knee_code
 
@@ -58,10 +58,13 @@ def format_cards():
     """Cards that declare a format, with and without fields; a width and a row that each format takes follow."""
     good = word(1) + row((723, 723, 723))
     for form, name in NAMES.items():
-        bits = form.number
-        yield f"{name}_no_peak_named", bytes([bits]) + good
+        bits, bright = form.number, word(3) + row(*([form.step * D for D in pixel] for pixel in BRIGHT))
+        yield f"no_peak_named_{name}", bytes([bits]) + bright
+        yield f"no_peak_named_{name}_maxcll_zero", bytes([bits | 1]) + word(0) + bright
+        yield f"no_peak_named_{name}_maxcll_zero_mastering_peak_zero", bytes([bits | 3]) + word(0) + word(0) + bright
+        yield f"{name}_mastering_peak_4000", bytes([bits | 2]) + word(4_000) + bright
         yield f"{name}_unconstrained", bytes([bits | 4]) + good
-        yield f"{name}_maxcll_zero", bytes([bits | 1]) + word(0) + good
+        yield f"{name}_maxcll_zero_unconstrained", bytes([bits | 5]) + word(0) + good
         yield f"{name}_maxcll_1200_mastering_peak_2000_unconstrained", bytes([bits | 7]) + word(1_200) + word(2_000) + good
         yield f"{name}_maxcll_zero_mastering_peak_1200", bytes([bits | 3]) + word(0) + word(1_200) + good
         yield f"{name}_mastering_peak_1200_unconstrained", bytes([bits | 6]) + word(1_200) + good
@@ -71,7 +74,7 @@ def format_cards():
 
 
 def format_titles():
-    """Titles of `convert` in the formats beside ten-bit narrow range; `measure` reads them too."""
+    """Titles of `convert` in the formats beside ten-bit narrow range; `measure` and `rewrite` read them too."""
     yield from format_cards()
     for form, name in NAMES.items():
         codes = form.taken
@@ -91,7 +94,7 @@ def format_titles():
 
 
 def measured_format_titles():
-    """Titles of `measure` alone: the brightest code, and codes of one light beyond black and the nominal peak."""
+    """Titles that `convert` is not run on: the brightest code, and codes of one light beyond black and the nominal peak."""
     for form, name in NAMES.items():
         opening, black, white = bytes([form.number | 4]), form.black, form.white
         middle = form.nominal[len(form.nominal) // 2]

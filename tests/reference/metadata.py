@@ -1,4 +1,5 @@
-"""Document 01, "Cards, rows, program", with requests 02, 06 and 07: the card that opens a title and declares its source."""
+"""Document 01, "Cards, rows, program", with requests 02, 06, 07 and 12: the card that opens a title and declares its source, and how one that names no
+peak is rewritten."""
 
 from typing import NamedTuple
 
@@ -7,8 +8,8 @@ from .sample_format import FULL_RANGE, TWELVE_BITS, Format, format_of
 
 MAXCLL, MASTERING_PEAK, UNCONSTRAINED = 1, 2, 4      # bits of the opening byte, beside those of the format
 KNOWN = MAXCLL | MASTERING_PEAK | UNCONSTRAINED | TWELVE_BITS | FULL_RANGE
-DEFAULT_PEAK = 4_000
 FIELD_BYTES = 2
+REWRITTEN_PEAK = 4_000                               # what a card that names no peak is rewritten to
 
 
 class Source(NamedTuple):
@@ -47,13 +48,15 @@ def card_fields(card):
 
 
 def peak_of_metadata(card):
-    """The declared peak in cd/m2 of the card that these bytes open with; fields of 0 are passed over, as if their bits were clear."""
+    """The declared peak in cd/m2 of the card that these bytes open with; fields of 0 are passed over, as if their bits were clear. Refusal 17 after 1 to 4."""
     fields = {bit: value for bit, value in card_fields(card).items() if value != 0}
     if MAXCLL in fields:
         return fields[MAXCLL]
     if card[0] & UNCONSTRAINED:
         return PEAK_TOP
-    return fields.get(MASTERING_PEAK, DEFAULT_PEAK)
+    if MASTERING_PEAK not in fields:
+        raise Refused(17)
+    return fields[MASTERING_PEAK]
 
 
 def source_of_metadata(card):
@@ -62,9 +65,21 @@ def source_of_metadata(card):
 
 
 def after_metadata(data):
-    """The bytes that follow the card; the empty end of them if the card is refused."""
+    """The bytes that follow the card; the empty end of them if it is refused by 1 to 4. One refused by 17 ends where its last field does."""
     try:
         card_fields(data)
     except Refused:
         return data[len(data):]
     return data[card_length(data[0]):]
+
+
+def rewritten_opening(data):
+    """Three bytes to stand before `after_metadata` in the place of a card refused by 17; None for a card that names a peak. Refusals 1 to 4."""
+    try:
+        peak_of_metadata(data)
+    except Refused as refused:
+        if refused.number != 17:
+            raise
+        bits = format_of(data[0]).number | MASTERING_PEAK
+        return bytes([bits]) + REWRITTEN_PEAK.to_bytes(FIELD_BYTES, "big")
+    return None

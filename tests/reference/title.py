@@ -23,7 +23,7 @@ def read_width(read):
 
 
 def read_opening(read):
-    """The declared source and the width; refusals 1 to 4, then 10."""
+    """The declared source and the width; refusals 1 to 4, then 17, then 10."""
     return source_of_metadata(read_card(read)), read_width(read)
 
 

@@ -24,11 +24,12 @@ from .display_light import display_lights, has_light
 from .format_cases import format_cards, format_light_questions, format_pixels, format_records, format_row_calls, format_titles, measured_format_titles
 from .light import light_at, light_entry, light_of_code, position_of
 from .measure import measure_title
-from .metadata import after_metadata, source_of_metadata
+from .metadata import after_metadata, rewritten_opening, source_of_metadata
 from .pixel import convert_pixel
 from .program import convert_title
 from .refusal import Refused
 from .return_cases import colours, return_row_calls, stage_questions
+from .rewrite import rewrite_title
 from .row import MOST_ROWS, c_number, rgb, samples_of
 from .sample_format import FULL_RANGE, TWELVE_BITS, format_of
 from .samples import delicate_pixels, draw_peaks, draw_pixel
@@ -269,7 +270,7 @@ def format_record_line(number, record, row, given):
     return f"{number} {record_line(record, row, given)}"
 
 
-def card_answer(data):
+def source_answer(data):
     """`peak PEAK` or `refused NUMBER`, then how many bytes follow the card; of an accepted one `twelve` and `full` where it declares them."""
     length = len(after_metadata(data))
     try:
@@ -277,6 +278,20 @@ def card_answer(data):
     except Refused as refused:
         return f"refused {refused.number} {length}"
     return f"peak {peak} {length}" + " twelve" * (form.bits == 12) + " full" * form.full
+
+
+def rewriting_answer(data):
+    """The three bytes that a card is rewritten to, `nothing` where it is not, or `refused NUMBER`."""
+    try:
+        opening = rewritten_opening(data)
+    except Refused as refused:
+        return f"refused {refused.number}"
+    return "nothing" if opening is None else " ".join(map(str, opening))
+
+
+def card_answer(data):
+    """The answers of the card's calls."""
+    return f"{source_answer(data)} : {rewriting_answer(data)}"
 
 
 def card_question(data):
@@ -304,6 +319,23 @@ def converted(data, most_rows=MOST_ROWS):
 def measured(data, most_rows=MOST_ROWS):
     """What `measure` prints for an input."""
     return printed(measure_title, data, most_rows)
+
+
+def rewritten(data):
+    """What `rewrite` writes for an input, to standard output and to standard error."""
+    blocks, told = [], []
+    rewrite_title(BytesIO(data).read, blocks.append, told.append)
+    return b"".join(blocks), "".join(told).encode()
+
+
+def rewriting_line(name, data):
+    """The name of a title, then `same`, `refused NUMBER`, or `NEW for OLD`: the bytes that it opens with when rewritten, and those of its card."""
+    try:
+        opening = rewritten_opening(data)
+    except Refused as refused:
+        return f"{name} refused {refused.number}"
+    card = data[:len(data) - len(after_metadata(data))]
+    return f"{name} same" if opening is None else f"{name} {opening.hex()} for {card.hex()}"
 
 
 def lines(each):
@@ -359,13 +391,15 @@ def vector_files(answered):
         (value_line, answered.values), (linear_pixel_line, answered.linear_pixels)) for case, given in cases.items())
     yield f"{FOLDER}/linear_rows.txt", lines(linear_row_line(*case) for case in linear_cases.row_calls(Random(SEED)))
     yield f"{FOLDER}/return/rows.txt", lines(call_line(returned.c_number, *case) for case in return_row_calls(Random(SEED)))
-    for name, data in (*titles(), *format_titles()):
+    all_converted, all_measured = (*titles(), *format_titles()), (*measured_titles(), *measured_format_titles())
+    for name, data in all_converted:
         yield f"{FOLDER}/convert/{name}.in", data
         yield f"{FOLDER}/convert/{name}.out", converted(data)
         yield f"{FOLDER}/measure/{name}.out", measured(data)
-    for name, data in (*measured_titles(), *measured_format_titles()):
+    for name, data in all_measured:
         yield f"{FOLDER}/measure/{name}.in", data
         yield f"{FOLDER}/measure/{name}.out", measured(data)
+    yield f"{FOLDER}/rewrite.txt", lines(rewriting_line(*named) for named in (*all_converted, *all_measured))
 
 
 def programs(answered):

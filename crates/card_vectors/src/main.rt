@@ -1,10 +1,13 @@
 // The card's calls over stored questions on standard input: the number of bytes in one byte, then the bytes, which open with a card. The answer is a
-// line: the peak or the refusal, then how many bytes follow the card, and last what else the card says, `twelve` bits and `full` range.
+// line: the peak or the refusal, then how many bytes follow the card, what else the card says, `twelve` bits and `full` range, and after a colon what it is
+// rewritten to: three bytes, `nothing`, or the refusal.
 use big_endian::byte_at;
 use libc::STDIN_FILENO;
 use libc::STDOUT_FILENO;
 use metadata::SourceAnswer;
 use metadata::after_metadata;
+use metadata::rewriting::Rewriting;
+use metadata::rewriting::rewrite_metadata;
 use metadata::source_of_metadata;
 use quantity::sample_format::Depth;
 use quantity::sample_format::Range;
@@ -15,14 +18,28 @@ fn print_source(answer: SourceAnswer) -> bool {
         SourceAnswer::Declared(source) => {
             io::write_all(STDOUT_FILENO, b"peak ") && io::print_decimal(STDOUT_FILENO, source.peak)
         }
-        SourceAnswer::Refused(number) => {
-            io::write_all(STDOUT_FILENO, b"refused ") && io::print_decimal(STDOUT_FILENO, number)
-        }
+        SourceAnswer::Refused(number) => print_refusal(number),
     }
 }
 
-fn print_length(bytes: &[u8]) -> bool {
-    io::write_all(STDOUT_FILENO, b" ") && io::print_decimal(STDOUT_FILENO, bytes.len() as u64)
+fn print_refusal(number: u64) -> bool {
+    io::write_all(STDOUT_FILENO, b"refused ") && io::print_decimal(STDOUT_FILENO, number)
+}
+
+fn print_rewriting(answer: Rewriting) -> bool {
+    match answer {
+        Rewriting::Opening(bits, high, low) => {
+            io::print_decimal(STDOUT_FILENO, bits as u64)
+                && print_number(high as u64)
+                && print_number(low as u64)
+        }
+        Rewriting::Nothing => io::write_all(STDOUT_FILENO, b"nothing"),
+        Rewriting::Refused(number) => print_refusal(number),
+    }
+}
+
+fn print_number(number: u64) -> bool {
+    io::write_all(STDOUT_FILENO, b" ") && io::print_decimal(STDOUT_FILENO, number)
 }
 
 fn print_format(answer: SourceAnswer) -> bool {
@@ -70,8 +87,10 @@ fn answer(card: &mut [u8]) -> bool {
         return false;
     }
     print_source(source_of_metadata(card))
-        && print_length(after_metadata(card))
+        && print_number(after_metadata(card).len() as u64)
         && print_format(source_of_metadata(card))
+        && io::write_all(STDOUT_FILENO, b" : ")
+        && print_rewriting(rewrite_metadata(card))
         && io::write_all(STDOUT_FILENO, b"\n")
 }
 

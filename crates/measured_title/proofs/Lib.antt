@@ -1,2 +1,3 @@
 pub mod NextRowLaws
 pub mod Program
+pub mod RewrittenLaws

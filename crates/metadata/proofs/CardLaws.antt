@@ -1,6 +1,6 @@
 -- Laws of a card, from the definitions: which bytes have an unknown bit, what each outcome says of a card, and what bytes that come after it change.
 use Prim.Native.Nat.{ℕ, _+_, _*_, _-_, _<_, _≤_}
-use mathlib.Core.Bool.{Bool, true, false, cond, _||_, _&&_, true≢false}
+use mathlib.Core.Bool.{Bool, true, false, cond, not, _||_, _&&_, true≢false, and-false}
 use mathlib.Core.List.{List, [], _∷_, _++_}
 use mathlib.Core.Path.{_≡_, refl, sym, ap, _∙_}
 use native.Mathlib.Omega.{arith}
@@ -12,7 +12,7 @@ use Rattle.quantity.specs.declared.Source.{Source}
 use Rattle.quantity.specs.SampleFormat.{formatOf}
 use Rattle.big_endian.specs.BigEndian.{numberAt}
 use Rattle.metadata.specs.Card.{bit, stands, maxCLL, masteringPeak, cardBytes, unknownBit, cutShort, known, outOfRange, fieldOutOfRange}
-use Rattle.metadata.specs.Card.{peak, format, declared, cardAnswer, endAfter, following, cardWants}
+use Rattle.metadata.specs.Card.{namesNoPeak, peak, format, declared, cardAnswer, endAfter, following, cardWants}
 use Rattle.metadata.specs.declared.SourceAnswer.{SourceAnswer}
 use Rattle.metadata.specs.declared.SourceAnswer.the-variants.{Declared, Refused}
 
@@ -54,7 +54,7 @@ bits-refused = (refl, refl, refl, refl)
 
 -- What the fields of a card answer, once all its bytes are there.
 abbrev fieldsAnswer : List ℕ → SourceAnswer
-fieldsAnswer card = cond (fieldOutOfRange card) (Refused 4) (Declared (declared card))
+fieldsAnswer card = cond (fieldOutOfRange card) (Refused 4) (cond (namesNoPeak card) (Refused 17) (Declared (declared card)))
 
 -- What each outcome of the tests before those of the fields says of a card: its answer, how many bytes it wants, and why.
 pub data Outcome (card : List ℕ) : Type 0 where
@@ -79,21 +79,32 @@ outcome card = go (eqb (length card) 0) (unknownBit card) (cutShort card) refl r
         let all = ltb-false (length card) (cardBytes card) r in
         complete q all (simp (p, q, r)) (simp (p, q) (omega arith))
 
--- An accepted card has all its bytes, and declares what its fields say.
+-- An accepted card has all its bytes, names a peak, and declares what its fields say.
 pub accepted : (card : List ℕ) {source : Source} → cardAnswer card ≡ Declared source
-    → (cardBytes card ≤ length card) × (fieldOutOfRange card ≡ false) × (source ≡ declared card)
+    → (cardBytes card ≤ length card) × (fieldOutOfRange card ≡ false) × (source ≡ declared card) × (namesNoPeak card ≡ false)
 accepted card {source} h = go (outcome card)
   where
-    by-fields : cardBytes card ≤ length card → (b : Bool) → fieldOutOfRange card ≡ b → fieldsAnswer card ≡ Declared source
-        → (cardBytes card ≤ length card) × (fieldOutOfRange card ≡ false) × (source ≡ declared card)
-    by-fields l true f e = let g = simp f at e in let z : _≡_ {A = ℕ} 0 1 = cc in absurd (omega arith)
-    by-fields l false f e = let g = simp f at e in (l, f, cc)
+    by-fields : cardBytes card ≤ length card → (b c : Bool) → fieldOutOfRange card ≡ b → namesNoPeak card ≡ c → fieldsAnswer card ≡ Declared source
+        → (cardBytes card ≤ length card) × (fieldOutOfRange card ≡ false) × (source ≡ declared card) × (namesNoPeak card ≡ false)
+    by-fields l true c f n e = let g = simp f at e in let z : _≡_ {A = ℕ} 0 1 = cc in absurd (omega arith)
+    by-fields l false true f n e = let g = simp (f, n) at e in let z : _≡_ {A = ℕ} 0 1 = cc in absurd (omega arith)
+    by-fields l false false f n e = let g = simp (f, n) at e in (l, f, cc, n)
 
-    go : Outcome card → (cardBytes card ≤ length card) × (fieldOutOfRange card ≡ false) × (source ≡ declared card)
+    go : Outcome card → (cardBytes card ≤ length card) × (fieldOutOfRange card ≡ false) × (source ≡ declared card) × (namesNoPeak card ≡ false)
     go (empty l e w) = let z : _≡_ {A = ℕ} 0 1 = cc in absurd (omega arith)
     go (unknown l u e w) = let z : _≡_ {A = ℕ} 0 1 = cc in absurd (omega arith)
     go (cut l u s e w) = let z : _≡_ {A = ℕ} 0 1 = cc in absurd (omega arith)
-    go (complete u l e w) = by-fields l (fieldOutOfRange card) refl (sym e ∙ h)
+    go (complete u l e w) = by-fields l (fieldOutOfRange card) (namesNoPeak card) refl refl (sym e ∙ h)
+
+-- A card that 17 refuses has all its bytes and wants none.
+pub no-peak-named : (card : List ℕ) → cardAnswer card ≡ Refused 17 → (cardBytes card ≤ length card) × (cardWants card ≡ 0)
+no-peak-named card h = go (outcome card)
+  where
+    go : Outcome card → (cardBytes card ≤ length card) × (cardWants card ≡ 0)
+    go (empty l e w) = let z : _≡_ {A = ℕ} 1 17 = cc in absurd (omega arith)
+    go (unknown l u e w) = let z : _≡_ {A = ℕ} 2 17 = cc in absurd (omega arith)
+    go (cut l u s e w) = let z : _≡_ {A = ℕ} 3 17 = cc in absurd (omega arith)
+    go (complete u l e w) = (l, w)
 
 -- An accepted card wants no byte.
 pub wants-none : (card : List ℕ) {source : Source} → cardAnswer card ≡ Declared source → cardWants card ≡ 0
@@ -121,21 +132,62 @@ known-in-range true v h e =
     omega arith
 known-in-range false v h e = absurd (true≢false (sym e))
 
-chosen : {b : Bool} {x next : ℕ} → (b ≡ true → InRange x) → InRange next → InRange (cond b x next)
+chosen : {b : Bool} {x next : ℕ} → (b ≡ true → x ≤ 10000) → next ≤ 10000 → cond b x next ≤ 10000
 chosen {b = true} h n = h refl
 chosen {b = false} h n = n
 
+peak-at-most : (card : List ℕ) → fieldOutOfRange card ≡ false → peak card ≤ 10000
+unfolding peak fieldOutOfRange
+peak-at-most card h =
+    let fields = or-false (stands 0 card && outOfRange (maxCLL card)) _ h in
+    let mastering = chosen {next = 0} (λ e. known-in-range (stands 1 card) (masteringPeak card) (fields .1) e .1) (omega arith) in
+    let unconstrained = chosen {b = stands 2 card} {x = 10000} (λ e. omega arith) mastering in
+    chosen (λ e. known-in-range (stands 0 card) (maxCLL card) (fields .0) e .1) unconstrained
+
+known-some : (standing : Bool) (v : ℕ) → known standing v ≡ true → eqb v 0 ≡ false
+unfolding known
+known-some true v e = not-true _ e
+known-some false v e = absurd (true≢false (sym e))
+
+-- A card names no peak just where its peak is 0: what is known is above 0.
+pub no-peak : (card : List ℕ) → namesNoPeak card ≡ eqb (peak card) 0
+unfolding namesNoPeak peak
+no-peak card = go (known (stands 0 card) (maxCLL card)) (known (stands 1 card) (masteringPeak card)) (stands 2 card) refl refl refl
+  where
+    go : (a b c : Bool) → known (stands 0 card) (maxCLL card) ≡ a → known (stands 1 card) (masteringPeak card) ≡ b → stands 2 card ≡ c
+        → (not a && not b && not c) ≡ eqb (cond a (maxCLL card) (cond c 10000 (cond b (masteringPeak card) 0))) 0
+    go true b c p q r = simp (known-some (stands 0 card) (maxCLL card) p)
+    go false true true p q r = refl
+    go false true false p q r = simp (known-some (stands 1 card) (masteringPeak card) q)
+    go false false true p q r = refl
+    go false false false p q r = refl
+
+outside-known : (standing : Bool) (v : ℕ) → (standing && outOfRange v) ≡ true → known standing v ≡ true
+unfolding outOfRange known
+outside-known true v h = let above = ltb-true 10000 v h in simp (ne-eqb v 0 (omega arith))
+outside-known false v h = h
+
+-- No card meets both 4 and 17, since a field above 10,000 is known: which of the two is tested first, no card can tell.
+pub never-both : (card : List ℕ) → fieldOutOfRange card ≡ true → namesNoPeak card ≡ false
+unfolding fieldOutOfRange namesNoPeak
+never-both card h = go (stands 0 card && outOfRange (maxCLL card)) refl
+  where
+    go : (b : Bool) → (stands 0 card && outOfRange (maxCLL card)) ≡ b
+        → (not (known (stands 0 card) (maxCLL card)) && not (known (stands 1 card) (masteringPeak card)) && not (stands 2 card)) ≡ false
+    go true e = simp (outside-known (stands 0 card) (maxCLL card) e)
+    go false e = simp (outside-known (stands 1 card) (masteringPeak card) (simp e at h), and-false)
+
+pub named-alike : (x y : List ℕ) → peak x ≡ peak y → namesNoPeak x ≡ namesNoPeak y
+named-alike x y h = no-peak x ∙ ap (λ (p : ℕ). eqb p 0) h ∙ sym (no-peak y)
+
 -- The peak of an accepted card lies from 1 to 10,000, so that refusal 5 never meets it.
 pub peak-in-range : (card : List ℕ) {source : Source} → cardAnswer card ≡ Declared source → (1 ≤ source .peak) × (source .peak ≤ 10000)
-unfolding peak fieldOutOfRange
 peak-in-range card h =
     let a = accepted card h in
-    let fields = or-false (stands 0 card && outOfRange (maxCLL card)) _ (a .1) in
-    let mastering = chosen {next = 4000} (known-in-range (stands 1 card) (masteringPeak card) (fields .1)) (omega arith) in
-    let unconstrained = chosen {b = stands 2 card} {x = 10000} (λ e. omega arith) mastering in
-    rw (a .2) (chosen (known-in-range (stands 0 card) (maxCLL card) (fields .0)) unconstrained)
+    let some = eqb-false (peak card) 0 (sym (no-peak card) ∙ a .3) in
+    rw (a .2) (omega arith, peak-at-most card (a .1))
 
--- What follows a card begins after its bytes where its answer says so, as that of an accepted card does.
+-- What follows a card begins after its bytes where its answer says so, as that of an accepted card does, and refusal 17.
 pub after-bytes : (card : List ℕ) {answer : SourceAnswer} → cardAnswer card ≡ answer → endAfter answer card ≡ cardBytes card
     → following card ≡ drop (cardBytes card) card
 unfolding following
@@ -185,7 +237,7 @@ module _ (card more : List ℕ) where
   longer : length (card ++ more) ≡ length card + length more
   longer = simp length-append
 
-  same-map : 0 < length card → getD (card ++ more) 0 0 ≡ getD card 0 0
+  pub same-map : 0 < length card → getD (card ++ more) 0 0 ≡ getD card 0 0
   same-map h = List·getD-append card more 0 0 h
 
   same-bytes : 0 < length card → cardBytes (card ++ more) ≡ cardBytes card
@@ -256,7 +308,8 @@ module _ (card more : List ℕ) where
       go (cut l u s e w) = absurd (omega arith)
       go (complete u l e w) =
           let first = some-byte l in
-          rw e (simp (some first, same-unknown first ∙ u, uncut l, same-fields l, same-peak l, same-format first))
+          let named = named-alike (card ++ more) card (same-peak l) in
+          rw e (simp (some first, same-unknown first ∙ u, uncut l, same-fields l, named, same-peak l, same-format first))
 
   -- What comes after such a card's bytes follows the card.
   follows-by : {answer : SourceAnswer} → cardAnswer card ≡ answer → ((x : List ℕ) → endAfter answer x ≡ cardBytes x) → cardWants card ≡ 0
@@ -268,6 +321,9 @@ module _ (card more : List ℕ) where
 
   pub follows : {source : Source} → cardAnswer card ≡ Declared source → following (card ++ more) ≡ following card ++ more
   follows h = follows-by h (λ x. refl) (wants-none card h) (accepted card h .0)
+
+  pub follows-unnamed : cardAnswer card ≡ Refused 17 → following (card ++ more) ≡ following card ++ more
+  follows-unnamed h = let n = no-peak-named card h in follows-by h (λ x. refl) (n .1) (n .0)
 
   -- Fewer bytes than a card wants leave it wanting the others.
   pub wants-on : length more < cardWants card → cardWants (card ++ more) ≡ cardWants card - length more

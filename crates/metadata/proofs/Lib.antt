@@ -1,3 +1,5 @@
 pub mod CardLaws
 pub mod ZeroFieldLaws
 pub mod PeakOrderLaws
+pub mod NoPeakLaws
+pub mod RewritingLaws

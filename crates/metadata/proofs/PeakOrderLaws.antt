@@ -12,7 +12,7 @@ use Rattle.quantity.specs.declared.Source.{Source}
 use Rattle.quantity.specs.Source.{gradedAt}
 use Rattle.big_endian.specs.BigEndian.{numberAt}
 use Rattle.metadata.specs.Card.{stands, maxCLL, masteringPeak, cardBytes, unknownBit, outOfRange, fieldOutOfRange, known, peak, format, declared}
-use Rattle.metadata.specs.Card.{cardAnswer, endAfter, following}
+use Rattle.metadata.specs.Card.{namesNoPeak, cardAnswer, endAfter, following}
 use Rattle.metadata.specs.declared.SourceAnswer.{SourceAnswer}
 use Rattle.metadata.specs.declared.SourceAnswer.the-variants.{Declared, Refused}
 use Rattle.metadata.proofs.CardLaws.{accepted, or-false, known-in-range}
@@ -23,7 +23,7 @@ formerPeak card =
     cond (known (stands 0 card) (maxCLL card)) (maxCLL card)
     (cond (known (stands 1 card) (masteringPeak card)) (masteringPeak card)
     (cond (stands 2 card) 10000
-    4000))
+    0))
 
 -- what the card declares if its peak is p
 abbrev pub declaredAt : ℕ → List ℕ → Source
@@ -128,5 +128,5 @@ pub examples :
     × Peaks (6 ∷ 39 ∷ 16 ∷ []) 10000 10000
     × Peaks (7 ∷ 0 ∷ 0 ∷ 15 ∷ 160 ∷ []) 10000 4000
     × Peaks (7 ∷ 3 ∷ 232 ∷ 15 ∷ 160 ∷ []) 1000 1000
-unfolding cardAnswer unknownBit cardBytes fieldOutOfRange outOfRange known peak format formerPeak numberAt
+unfolding cardAnswer unknownBit cardBytes fieldOutOfRange outOfRange known namesNoPeak peak format formerPeak numberAt
 examples = ((refl, refl), (refl, refl), (refl, refl), (refl, refl))

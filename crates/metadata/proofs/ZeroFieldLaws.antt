@@ -1,7 +1,7 @@
 -- A field of 0 counts for nothing, from the definitions of a card: both calls answer as for the card without it, whose bit is clear and whose two bytes
 -- are gone, be it accepted, refused or cut short.
 use Prim.Native.Nat.{ℕ, _+_, _*_, _/_, _%_, _<_}
-use mathlib.Core.Bool.{Bool, true, false, _||_, _&&_}
+use mathlib.Core.Bool.{Bool, true, false, cond, _||_, _&&_}
 use mathlib.Core.List.{List, [], _∷_}
 use mathlib.Core.Path.{_≡_, refl, sym, _∙_}
 use native.Mathlib.Omega.{arith}
@@ -13,7 +13,7 @@ use Rattle.metadata.specs.Card.{bit, stands, field, maxCLL, masteringPea
 use Rattle.metadata.specs.Card.{cardAnswer, endAfter, following}
 use Rattle.metadata.specs.declared.SourceAnswer.{SourceAnswer}
 use Rattle.metadata.specs.declared.SourceAnswer.the-variants.{Declared, Refused}
-use Rattle.metadata.proofs.CardLaws.{choice, same-choices}
+use Rattle.metadata.proofs.CardLaws.{choice, same-choices, named-alike}
 
 -- The card's two calls answer alike.
 abbrev pub Alike : List ℕ → List ℕ → Type 0
@@ -106,11 +106,15 @@ same-answers c p q xs ys g h longer bytes outside first second rest = (same, rw 
         (λ next. max-cll-by c p g xs next ∙ first next ∙ sym (max-cll-by c q h ys next))
         (λ next. mastering-peak-by c p g xs next ∙ second next ∙ sym (mastering-peak-by c q h ys next)) in
         let coded = format-by c p g xs ∙ sym (format-by c q h ys) in
-        simp (ne-eqb (length x) 0 (omega arith), ne-eqb (length y) 0 (omega arith), unknown, cut, fields, chosen, coded)
+        simp (ne-eqb (length x) 0 (omega arith), ne-eqb (length y) 0 (omega arith), unknown, cut, fields, named-alike x y chosen, chosen, coded)
+
+    refused : (whole : Bool) → drop (cond whole (cardBytes x) (length x)) x ≡ drop (cond whole (cardBytes y) (length y)) y
+    refused true = rw (bytes-by c p g xs, bytes-by c q h ys) rest
+    refused false = drop-of-length-le xs {i = length xs} (omega arith) ∙ sym (drop-of-length-le ys {i = length ys} (omega arith))
 
     go : (answer : SourceAnswer) → drop (endAfter answer x) x ≡ drop (endAfter answer y) y
-    go (Declared source) = rw (bytes-by c p g xs, bytes-by c q h ys) rest
-    go (Refused number) = drop-of-length-le xs {i = length xs} (omega arith) ∙ sym (drop-of-length-le ys {i = length ys} (omega arith))
+    go (Declared source) = refused true
+    go (Refused number) = refused (eqb number 17)
 
 -- MaxCLL of 0 alone and before a mastering peak, a mastering peak of 0 alone and after MaxCLL; c has the bits above these two.
 pub zero-field : (c high low : ℕ) (rest : List ℕ)

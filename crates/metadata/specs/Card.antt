@@ -1,5 +1,5 @@
 -- The card that precedes a picture: scope (document 01), "Cards, rows, program", and refusals 1 to 4 of "What stops a call"; request 02, fields of 0;
--- request 06, depth and range; request 07, unconstrained before the mastering peak.
+-- request 06, depth and range; request 07, unconstrained before the mastering peak; request 12, refusal 17.
 -- A list of bytes opens with the card, and other bytes may follow. Fields and peaks are in whole cd/m2, lengths in bytes.
 use Prim.Native.Nat.{ℕ, _+_, _*_, _-_, _/_, _%_, _^_}
 use mathlib.Core.Bool.{Bool, cond, not, _||_, _&&_}
@@ -58,14 +58,19 @@ fieldOutOfRange card =
 unfoldable pub known : Bool → ℕ → Bool
 known standing value = standing && not (eqb value 0)
 
--- scope, Cards, in the order of request 07: the peak of a card that nothing refuses. MaxCLL where it is known, else 10,000 for an unconstrained title, else
--- the mastering peak where that is known, else 4,000.
+-- request 12, refusal 17: no field is known, and bit 2 does not stand
+unfoldable pub namesNoPeak : List ℕ → Bool
+namesNoPeak card =
+    not (known (stands 0 card) (maxCLL card)) && not (known (stands 1 card) (masteringPeak card)) && not (stands 2 card)
+
+-- scope, Cards, in the order of request 07: the peak that a card names. MaxCLL where it is known, else 10,000 for an unconstrained title, else the mastering
+-- peak where that is known; 0, which as in a field is no peak, of a card that names none.
 unfoldable pub peak : List ℕ → ℕ
 peak card =
     cond (known (stands 0 card) (maxCLL card)) (maxCLL card)
     (cond (stands 2 card) 10000
     (cond (known (stands 1 card) (masteringPeak card)) (masteringPeak card)
-    4000))
+    0))
 
 -- request 06: bits 3 and 4 of the bit map mean twelve bits and full range, and neither has a field
 unfoldable pub format : List ℕ → SampleFormat
@@ -75,19 +80,21 @@ format card = formatOf (getD card 0 0)
 abbrev pub declared : List ℕ → Source
 declared card = record { peak = peak card; format = format card }
 
--- scope, What stops a call: the first of refusals 1 to 4 that the card meets, else what it declares
+-- scope, What stops a call, and request 12: the first of refusals 1 to 4 and 17 that the card meets, else what it declares
 unfoldable pub cardAnswer : List ℕ → SourceAnswer
 cardAnswer card =
     cond (eqb (length card) 0) (Refused 1)
     (cond (unknownBit card) (Refused 2)
     (cond (cutShort card) (Refused 3)
     (cond (fieldOutOfRange card) (Refused 4)
-    (Declared (declared card)))))
+    (cond (namesNoPeak card) (Refused 17)
+    (Declared (declared card))))))
 
--- scope, Cards: what follows a card begins after the card's bytes; after a refused one it is the empty end
+-- scope, Cards, and request 12: what follows a card begins after the card's bytes, also where it names no peak; of a card that 1 to 4 refuse it is the
+-- empty end
 abbrev pub endAfter : SourceAnswer → List ℕ → ℕ
 endAfter (Declared source) card = cardBytes card
-endAfter (Refused number) card = length card
+endAfter (Refused number) card = cond (eqb number 17) (cardBytes card) (length card)
 
 -- scope, Cards: the part of the bytes that follows the card
 unfoldable pub following : List ℕ → List ℕ

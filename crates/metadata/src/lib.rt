@@ -1,5 +1,7 @@
 // The card that precedes a picture: what it declares of the picture, or its refusal, and the bytes that follow it.
 // Each call takes the caller's bytes from the card's first on, with whatever comes after it.
+pub mod rewriting;
+
 ghost use mathlib.Core.Path.{_≡_};
 ghost use mathlib.Core.Bool.{cond, _&&_};
 ghost use Prim.Native.Nat.{_/_, _%_, _<_, _≤_};
@@ -16,11 +18,11 @@ use quantity::sample_format::format_of;
 pub enum SourceAnswer {
     // what the card declares of its picture: a peak from 1 to 10,000 cd/m2, depth and range
     Declared(Source),
-    // the number of the refusal, from 1 to 4
+    // the number of the refusal, from 1 to 4 or 17
     Refused(u64),
 }
 
-// What the card declares of its picture, or its refusal, 1 to 4. Every field that stands is tested, also one that does not decide the peak.
+// What the card declares of its picture, or its refusal, 1 to 4 and then 17. Every field that stands is tested, also one that does not decide the peak.
 pub fn source_of_metadata(card: &[u8]) -> SourceAnswer
     ensures { λ r. ⌜ r ≡ cardAnswer (now (card .entry)) ⌝ }
 {
@@ -36,13 +38,17 @@ pub fn source_of_metadata(card: &[u8]) -> SourceAnswer
     if has_field_out_of_range(card) {
         return SourceAnswer::Refused(4);
     }
+    let peak = peak_of_fields(card);
+    if peak == 0 {
+        return SourceAnswer::Refused(17);
+    }
     SourceAnswer::Declared(Source {
-        peak: peak_of_fields(card),
+        peak: peak,
         format: format_of_bits(card),
     })
 }
 
-// The bytes after the card; none where the card is refused.
+// The bytes after the card, also where it is refused for want of a peak; none where 1 to 4 refuse it.
 pub fn after_metadata(card: &[u8]) -> &[u8]
     ensures { λ r. ⌜ now r ≡ following (now (card .entry)) ⌝ }
 {
@@ -67,14 +73,19 @@ pub fn bytes_wanted(card: &[u8]) -> usize
     0
 }
 
-// Where the bytes begin that follow the card: at its end, or at the end of all bytes where it is refused.
+// Where the bytes begin that follow the card: at its end, or at the end of all bytes where 1 to 4 refuse it.
 fn end_of_metadata(card: &[u8]) -> usize
     ensures { λ r. ⌜ (r ≡ endAfter (cardAnswer (now (card .entry))) (now (card .entry))) × (r ≤ length (now (card .entry))) ⌝ }
 {
     let answer = source_of_metadata(card);
     match answer {
         SourceAnswer::Declared(_) => length_of_card(card),
-        SourceAnswer::Refused(_) => card.len(),
+        SourceAnswer::Refused(number) => {
+            if number == 17 {
+                return length_of_card(card);
+            }
+            card.len()
+        }
     }
 }
 
@@ -132,11 +143,11 @@ fn mastering_peak(card: &[u8]) -> u64
     number_at(card, 1 + 2 * bit_of(card, 1) as usize)
 }
 
-// The peak of a card that nothing refuses.
+// The peak that the card names, 0 where it names none.
 fn peak_of_fields(card: &[u8]) -> u64
     ensures { λ r. ⌜ r ≡ peak (now (card .entry)) ⌝ }
 {
-    let mastered = first_known(bit_of(card, 2), mastering_peak(card), 4000);
+    let mastered = first_known(bit_of(card, 2), mastering_peak(card), 0);
     let unconstrained = first_standing(bit_of(card, 4), 10000, mastered);
     first_known(bit_of(card, 1), number_at(card, 1), unconstrained)
 }

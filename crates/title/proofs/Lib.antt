@@ -1,3 +1,4 @@
 pub mod OpeningLaws
 pub mod RowsLaws
 pub mod ReadingLaws
+pub mod RewrittenLaws

@@ -1,4 +1,4 @@
--- How a title opens: scope (document 01), "Cards, rows, program", and refusals 1 to 4 and 10 of "What stops a call".
+-- How a title opens: scope (document 01), "Cards, rows, program", and refusals 1 to 4 and 10 of "What stops a call"; request 12, refusal 17.
 -- A list of bytes is a title's from its first on; a width is in pixels.
 use Prim.Native.Nat.{ℕ, _-_}
 use mathlib.Core.Bool.{Bool, cond, _||_}

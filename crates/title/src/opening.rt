@@ -15,7 +15,7 @@ pub enum Opening {
     Refused(u64),
 }
 
-// What the bytes of an opening declare, or the refusal, 1 to 4 and then 10.
+// What the bytes of an opening declare, or the refusal, 1 to 4 and 17, then 10.
 pub fn read_opening(opening: &[u8]) -> Opening
     ensures { λ r. ⌜ r ≡ openingAnswer (now (opening .entry)) ⌝ }
 {
