@@ -24,8 +24,10 @@ DOCUMENTS = sorted([*ROOT.glob("*.md"), *ROOT.glob("docs/*.md"), *ROOT.glob("tes
 FOLDERS = ("crates", "docs", "tools", "tests", "include", "samples", "bench", ".ci")
 
 # the lists of the scope (What stops a call) and of requests 01, 04, 11 and 12, in the order of the tests
-CONVERT = [1, 2, 3, 4, 17, 10, 11, 9]
-PROGRAMS = {"A title": CONVERT, "The peak of a title": [*CONVERT, 12]}       # by the section of README.md: `convert`, `measure`
+CARD = [1, 2, 3, 4]
+CONVERT = [*CARD, 17, 10, 11, 9]
+# by the section of README.md: `convert`, `measure`, `rewrite`
+PROGRAMS = {"A title": CONVERT, "The peak of a title": [*CONVERT, 12], "Stored cards that name no peak": CARD}
 ROW_CALLS = {"include/pq_hlg.h": [5, 6, 7, 8, 9, 5, 15, 7, 8, 16], "include/hlg_pq.h": [6, 7, 8, 9]}      # of a header's calls, one after the other
 MEASURING_RUN = {"measure_row": [13, 6, 9], "measured_peak": [12]}
 PIXEL_CALL_OF_CODES = [14]

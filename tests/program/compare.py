@@ -20,7 +20,7 @@ from tests.reference.light import light_at, light_of_code
 from tests.reference.row import PIXEL_BYTES, WIDEST, pixels_of, samples_of
 from tests.reference.sample_format import FORMATS, format_of
 from tests.reference.samples import draw_measured_row, draw_palette, draw_row, with_bad_samples
-from tests.reference.vectors import converted, format_record_line, measured, record_answer, record_question
+from tests.reference.vectors import converted, format_record_line, measured, record_answer, record_question, rewritten
 
 BUILT = Path(__file__).resolve().parents[2] / "target" / "bin"
 FULL = {"titles": 60_000, "records": 60_000}
@@ -30,6 +30,7 @@ BATCH = 2_000                            # records of one run
 PATIENCE = 60                            # seconds that a run may take before it counts as hanging
 
 ANSWERS = {"measured", *(f"refused {number}" for number in (1, 2, 3, 4, 17, 9, 10, 11, 12))}
+REWRITINGS = {"same", "rewritten", *(f"refused {number}" for number in (1, 2, 3, 4))}
 RECORD_ANSWERS = {"accepted", *(f"refused {number}" for number in (6, 9, 12, 13))}
 
 
@@ -75,11 +76,11 @@ def draw_title(random):
     return data[:random.randrange(len(card) + 2)] if lot > 0.95 else data
 
 
-def run(built, name, data):
-    """What a program prints; its end must be quiet."""
+def run(built, name, data, told=b""):
+    """What a program prints; it must tell no more than it should, and end well."""
     done = subprocess.run([built / name], input=data, capture_output=True, timeout=PATIENCE)
-    if done.returncode or done.stderr:
-        raise Difference(f"{name} ended with {done.returncode} and said {done.stderr!r} on {shown(data)}")
+    if done.returncode or done.stderr != told:
+        raise Difference(f"{name} ended with {done.returncode} and said {done.stderr!r}, should be {told!r}, on {shown(data)}")
     return done.stdout
 
 
@@ -88,9 +89,9 @@ def shown(data):
     return f"{len(data)} bytes {data[:400].hex(' ', 2)}"
 
 
-def hold(built, name, data, owed):
-    """Fails unless a program prints what it owes."""
-    given = run(built, name, data)
+def hold(built, name, data, owed, told=b""):
+    """Fails unless a program prints what it owes, and tells what it should."""
+    given = run(built, name, data, told)
     if given != owed:
         raise Difference(f"{name} printed {given[-200:]!r}, should be {owed[-200:]!r}, on {shown(data)}")
 
@@ -107,11 +108,25 @@ def brightest(data):
     return lights.count(max(lights))
 
 
+def hold_rewritten(built, data):
+    """Fails unless `rewrite` copies and tells what it should; the title to go on with, and which answer it was."""
+    copy, told = rewritten(data)
+    hold(built, "rewrite", data, copy, told)
+    if told:
+        return data, told.decode().strip()
+    return copy, "same" if copy == data else "rewritten"
+
+
 def compare_titles(random, count, built):
-    """Titles through `measure`, the cheap ones also through `convert`; half of these with the measured peak on the card."""
-    seen, forms, equal, conversions, pixels = Counter(), Counter(), 0, 0, 0
+    """Titles through `measure`, the cheap ones also through `convert`; half of these with the measured peak on the card.
+
+    Every second title, by lot, goes through `rewrite` first and on as it was rewritten."""
+    seen, rewritings, forms, equal, conversions, pixels = Counter(), Counter(), Counter(), 0, 0, 0
     for number in range(count):
         data = draw_title(random)
+        if random.randrange(2):
+            data, rewriting = hold_rewritten(built, data)
+            rewritings[rewriting] += 1
         owed = measured(data)
         hold(built, "measure", data, owed)
         refused = owed.startswith(b"refused")
@@ -125,10 +140,10 @@ def compare_titles(random, count, built):
                 data = maxcll_card(format_of(data[0]), int(owed.split()[0])) + data[opening_length(data) - 2:]
             hold(built, "convert", data, converted(data))
             conversions += 1
-    print(f"titles: {count:,} measured as they should be, {pixels:,} pixels; {counts(seen)}; of those measured {equal:,} have several brightest "
-          f"pixels; {conversions:,} converted too")
-    if set(seen) != ANSWERS:
-        raise Difference(f"titles: not every answer occurred, but {sorted(seen)}")
+    print(f"titles: {count:,} measured as they should be, {pixels:,} pixels; {counts(seen)}; of those measured {equal:,} have several "
+          f"brightest pixels; {conversions:,} converted too; {rewritings.total():,} rewritten before; {counts(rewritings)}")
+    if set(seen) != ANSWERS or set(rewritings) != REWRITINGS:
+        raise Difference(f"titles: not every answer occurred, but {sorted(seen)} and {sorted(rewritings)}")
     if set(forms) != set(FORMATS):
         raise Difference(f"titles: not every format was measured, but {sorted(forms)}")
     if 3 * equal < seen["measured"]:
@@ -207,7 +222,7 @@ def main(arguments):
     options = parser.parse_args(arguments)
     sizes, start = SHORT if options.short else FULL, time.monotonic()
     built = options.built.resolve()
-    for name in ("measure", "convert", "record_vectors"):
+    for name in ("rewrite", "measure", "convert", "record_vectors"):
         if not (built / name).exists():
             sys.exit(f"{built / name} is not there: rt check builds it")
     try:

@@ -407,6 +407,9 @@ def programs(answered):
     sample = dict(titles())["sample"]
     yield "convert", sample, converted(sample)
     yield "measure", sample, measured(sample)
+    # the longest card that is rewritten
+    unnamed = dict(format_titles())["no_peak_named_twelve_bits_full_range_maxcll_zero_mastering_peak_zero"]
+    yield "rewrite", unnamed, rewritten(unnamed)[0]
     # two rows and what would be refused in a third
     past_limit = sample + sample[5:] + bytes.fromhex("00 00 FF")
     yield "title_limit", past_limit, converted(past_limit, 2)

@@ -45,9 +45,18 @@ fn read_opening_bytes(program: &[u8], opening: &mut [u8]) -> usize
 
 // The line of a refusal on standard output.
 pub fn print_refusal(number: u64) {
+    write_refusal(STDOUT_FILENO, number);
+}
+
+// The line of a refusal on standard error, for a program whose output is a title.
+pub fn tell_refusal(number: u64) {
+    write_refusal(STDERR_FILENO, number);
+}
+
+fn write_refusal(stream: i32, number: u64) {
     let mut text = [0u8; 29];
     let n = list_refusal(number, &mut text);
-    write_output(&text[..n]);
+    io::write_all(stream, &text[..n]);
 }
 
 // Standard output: whether all bytes were written.
