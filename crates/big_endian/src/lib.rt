@@ -1,4 +1,6 @@
 // 16-bit numbers in bytes, high byte first: how cards, widths and rows hold theirs. A byte past the end counts as 0.
+#![tactic(auto)]
+
 ghost use Rattle.std.specs.Prelude.{◌≡◌, ◌<◌, get_or};
 ghost use Rattle.big_endian.specs.BigEndian.{number_at};
 

@@ -1,6 +1,8 @@
 // The card's calls over stored questions on standard input: the number of bytes in one byte, then the bytes, which open with a card. The answer is a
 // line: the peak or the refusal, then how many bytes follow the card, what else the card says, `twelve` bits and `full` range, and after a colon what it is
 // rewritten to: three bytes, `nothing`, or the refusal.
+#![tactic(auto)]
+
 use big_endian::byte_at;
 use libc::{STDIN_FILENO, STDOUT_FILENO};
 use metadata::rewriting::{Rewriting, rewrite_metadata};

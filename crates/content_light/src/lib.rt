@@ -1,5 +1,7 @@
 // The measuring run over a title's rows: the largest component light of all pixels, which is the title's MaxCLL, and where it stands last. A record
 // is carried from row to row; every record that can be made is read, a field past its range at the range's end.
+#![tactic(auto)]
+
 mod rank;
 mod walk;
 
@@ -25,7 +27,7 @@ const LAST_ROW: u64 = 4294967294;
 const LAST_PIXEL: u64 = 8191;
 
 // What a run has found so far.
-#[derive(Drop)]
+#[derive(Clone, Copy)]
 pub struct RunRecord {
     // rows that were accepted
     pub rows: u64,
@@ -39,14 +41,14 @@ pub struct RunRecord {
 }
 
 // A record with one row more, or a refusal: its number and its place.
-#[derive(Drop)]
+#[derive(Clone, Copy)]
 pub enum RecordAnswer {
     Measured(RunRecord),
     Refused(u64, u64),
 }
 
 // A measured peak in whole cd/m2 with its row and pixel, or the number of a refusal.
-#[derive(Drop)]
+#[derive(Clone, Copy)]
 pub enum PeakAnswer {
     Peak(u64, u64, u64),
     Refused(u64),

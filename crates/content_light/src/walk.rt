@@ -19,7 +19,7 @@ use quantity::{Position, brightest_of, larger, smaller};
 use rows::{first_refused, sample_at};
 
 // Between which numbers the samples of a row lie.
-#[derive(Drop)]
+#[derive(Clone, Copy)]
 pub(crate) struct Bounds {
     pub least: u64,
     pub most: u64,

@@ -1,5 +1,7 @@
 // A title from its first byte to its last, each row converted and listed. No contract can say which bytes a system call reads or writes: that the
 // calls made here, in this order, give a title's text is `program_text_lem`.
+#![tactic(auto)]
+
 pub mod next_row;
 
 ghost use Rattle.std.specs.Prelude.{◌≤◌};

@@ -8,7 +8,7 @@ use quantity::Source;
 use rows::RowAnswer;
 use title::row_bytes::{RowBytes, test_row_bytes};
 
-#[derive(Drop)]
+#[derive(Clone, Copy)]
 pub enum NextRow {
     // a whole row, all of whose samples are taken
     Listed,
@@ -19,7 +19,7 @@ pub enum NextRow {
 }
 
 // A piece of a title's text.
-#[derive(Drop)]
+#[derive(Clone, Copy)]
 pub struct Piece {
     // its length
     pub bytes: usize,

@@ -1,4 +1,6 @@
 // The highlight curve (maxRGB EETF) and the components it maps. Lights in units of 1/16,777,216 cd/m2, positions in 1/897,024 of the PQ signal.
+#![tactic(auto)]
+
 ghost use Rattle.std.specs.Prelude.{◌≡◌, min, ◌+◌, ◌*◌, ◌≤◌, ◌<◌};
 ghost use Rattle.quantity.specs.Units.{thousand, ten_thousand, last_position};
 ghost use Rattle.pq.specs.Pq.{entry_in};

@@ -1,4 +1,6 @@
 // The HLG codes of the mapped components of a pixel: BT.2100's inverse HLG OOTF (gamma 1.2), then its OETF, without rounding on the way.
+#![tactic(auto)]
+
 mod reach;
 
 ghost use Rattle.std.specs.Prelude.{◌≡◌, ℕ, min, ◌+◌, ◌^◌, ◌<◌};
@@ -12,7 +14,7 @@ use quantity::{DisplayLight, THOUSAND, smaller};
 use reach::reached;
 
 // The HLG codes of a pixel, 64 to 1,019 each.
-#[derive(Drop)]
+#[derive(Clone, Copy)]
 pub struct Codes {
     pub red: u64,
     pub green: u64,

@@ -1,5 +1,7 @@
 // The return path's calls: one pixel, a span of a row, and the row call for a host in C. Samples are HLG code values in and PQ ones out, both of ten bits
 // and narrow range, at 1,000 cd/m2.
+#![tactic(auto)]
+
 ghost use Rattle.std.specs.Prelude.{◌≡◌, length};
 ghost use Rattle.quantity.specs.Component.{pixel};
 ghost use Rattle.rows.specs.Answer.{host_number};

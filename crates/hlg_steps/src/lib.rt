@@ -1,4 +1,6 @@
 // The steps of the HLG OETF: for each code the smallest scene light whose signal rounds to that code or more.
+#![tactic(auto)]
+
 mod steps; // steps.rt: the constant
 
 ghost use Rattle.std.specs.Prelude.{◌≡◌, max, min, ◌-◌};

@@ -1,4 +1,6 @@
 // The PQ inverse EOTF: the code of a display light, in ten bits and narrow range.
+#![tactic(auto)]
+
 mod thresholds; // thresholds.rt: the constant
 
 ghost use Rattle.std.specs.Prelude.{◌≡◌, ℕ, min, ◌+◌, ◌-◌, ◌≤◌, leb};

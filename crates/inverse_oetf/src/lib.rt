@@ -1,4 +1,6 @@
 // The inverse HLG OETF: the scene light of each code.
+#![tactic(auto)]
+
 mod scene_lights; // scene_lights.rt: the constant
 
 ghost use Rattle.std.specs.Prelude.{◌≡◌, max, min, ◌-◌};

@@ -1,6 +1,8 @@
 // The calls on lights and positions over stored questions on standard input: a byte for the call and an 8-byte number, high byte first. The answer is a
 // line, a number: the byte over 8 leaves 0 for an entry of the light table, 1 for the light of a code, 2 for that at a position, 3 for the position of a
 // light, 4 for that of a code; its bits 3 and 4 are the depth and range of a code.
+#![tactic(auto)]
+
 use big_endian::{byte_at, number_at};
 use libc::{STDIN_FILENO, STDOUT_FILENO};
 use position::code::{code_position, light_of_code};

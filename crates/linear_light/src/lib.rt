@@ -1,5 +1,7 @@
 // Display light given as 32-bit floats in cd/m2: the class of a value, its light, and the tests 15, 7, 8 and 16 of a span of a row. A call tests what else
 // it refuses and converts what these accept.
+#![tactic(auto)]
+
 ghost use Rattle.std.specs.Prelude.{◌≡◌, ◌-◌, ◌*◌, ◌/◌, ◌^◌, ◌≤◌, min, true, false, length};
 ghost use Rattle.std.specs.Float.Ieee.{lt};
 ghost use Rattle.quantity.specs.Units.{units};
@@ -12,7 +14,7 @@ use rows::{RowAnswer, fewer};
 use std::num::truncating_f64_to_u64;
 
 // A linear pixel as it is read, before its values are classed.
-#[derive(Drop)]
+#[derive(Clone, Copy)]
 pub struct LinearPixel {
     pub red: f32,
     pub green: f32,
@@ -20,7 +22,7 @@ pub struct LinearPixel {
 }
 
 // A value from 0 to 10,000 cd/m2, below or above; each with the value as given.
-#[derive(Drop)]
+#[derive(Clone, Copy)]
 pub enum LightClass {
     Light(f32),
     Negative(f32),
@@ -28,7 +30,7 @@ pub enum LightClass {
 }
 
 // The class of a value, or a refusal: its number and its place.
-#[derive(Drop)]
+#[derive(Clone, Copy)]
 pub enum ClassAnswer {
     Classed(LightClass),
     Refused(u64, u64),

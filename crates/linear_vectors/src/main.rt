@@ -1,6 +1,8 @@
 // The calls on values and pixels in floats over stored questions on standard input: a byte for the call, three 4-byte bit patterns and an 8-byte peak, high
 // byte first. The byte is 0 for the class and the light of the first pattern's value, else for the pixel call. The answer is a line: the class, the value's
 // pattern as it was given and the light in units; three codes; or `refused` with its number and place. A pattern of no number stands for any of them.
+#![tactic(auto)]
+
 ghost use Rattle.std.specs.Prelude.{◌≤◌, ◌<◌};
 
 use big_endian::{byte_at, number_at};

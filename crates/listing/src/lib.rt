@@ -1,4 +1,6 @@
 // What the programs print: a line for each pixel of a converted row, its three codes in decimal; a line of three numbers; the line of a refusal.
+#![tactic(auto)]
+
 ghost use Rattle.std.specs.Prelude.{◌≡◌, ◌+◌, ◌*◌, ◌≤◌, ◌<◌, [], ◌∷◌, ◌++◌, length};
 ghost use Rattle.quantity.specs.Component.{pixel};
 ghost use Rattle.rows.specs.Row.{pixel_at};

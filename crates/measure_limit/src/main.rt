@@ -1,4 +1,6 @@
 // The row limit at two rows: what follows the second is not measured.
+#![tactic(auto)]
+
 use measured_title::measure_title;
 
 fn main() {

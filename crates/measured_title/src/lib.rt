@@ -1,5 +1,7 @@
 // The measured peak of a title: each row is counted into the record of a run, and its result is printed at the end. No contract can say which bytes a
 // system call reads or writes: that the calls made here, in this order, give a title's line is `program_line_lem`.
+#![tactic(auto)]
+
 pub mod next_row;
 
 ghost use Rattle.std.specs.Prelude.{◌≤◌};

@@ -9,7 +9,7 @@ use listing::{list_line, list_refusal};
 use quantity::sample_format::SampleFormat;
 use title::row_bytes::{RowBytes, test_row_bytes};
 
-#[derive(Drop)]
+#[derive(Clone, Copy)]
 pub enum NextRow {
     // the record with a whole row in it, all of whose samples are taken
     Measured(RunRecord),

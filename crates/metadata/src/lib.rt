@@ -1,5 +1,7 @@
 // The card that precedes a picture: what it declares of the picture, or its refusal, and the bytes that follow it.
 // Each call takes the caller's bytes from the card's first on, with whatever comes after it.
+#![tactic(auto)]
+
 pub mod rewriting;
 
 ghost use Rattle.std.specs.Prelude.{◌≡◌, cond, ◌&&◌, ◌/◌, ◌%◌, ◌<◌, ◌≤◌, eqb, length, get_or};
@@ -10,7 +12,7 @@ use big_endian::{byte_at, number_at};
 use quantity::Source;
 use quantity::sample_format::{SampleFormat, format_of};
 
-#[derive(Drop)]
+#[derive(Clone, Copy)]
 pub enum SourceAnswer {
     // what the card declares of its picture: a peak from 1 to 10,000 cd/m2, depth and range
     Declared(Source),

@@ -4,7 +4,7 @@ ghost use Rattle.metadata.specs.Rewriting.{rewriting, rewritten_bits};
 
 use crate::{SourceAnswer, bit_of, source_of_metadata};
 
-#[derive(Drop)]
+#[derive(Clone, Copy)]
 pub enum Rewriting {
     // the three bytes that stand in the place of the card's
     Opening(u8, u8, u8),

@@ -1,6 +1,8 @@
 // The pixel calls over stored questions on standard input, each a byte and four 8-byte numbers, high byte first: peak, red, green, blue. The byte over 8
 // leaves the call, 0 for HLG codes of PQ and 1 for Y'CbCr of RGB; its bits 3 and 4 are depth and range. Y'CbCr reads neither them nor the peak. The answer
 // is a line: the three codes, or `refused` with its number and place.
+#![tactic(auto)]
+
 ghost use Rattle.std.specs.Prelude.{◌≤◌};
 
 use libc::{STDIN_FILENO, STDOUT_FILENO};

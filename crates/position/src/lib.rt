@@ -1,4 +1,6 @@
 // The position of a light, and the lights of positions. Each call reads the light table; those ending in `_in` read a lent one.
+#![tactic(auto)]
+
 pub mod code;
 
 ghost use Rattle.std.specs.Prelude.{◌≡◌, ℕ, ◌+◌, ◌*◌, ◌/◌, ◌^◌, ◌≤◌, ◌<◌, leb};

@@ -1,4 +1,6 @@
 // The PQ EOTF as a table of light, and the one way into it.
+#![tactic(auto)]
+
 mod table;
 
 ghost use Rattle.std.specs.Prelude.{◌≡◌, min};

@@ -1,5 +1,7 @@
 // The engine's calls: one pixel, its Y'CbCr, a span of a row as RGB or as Y'CbCr, and the row calls for a host in C. Samples are PQ code values of the
 // source's depth and range in, and HLG ones of ten bits and narrow range out; a peak is in whole cd/m2. `linear` has the calls on floats.
+#![tactic(auto)]
+
 pub mod linear;
 
 ghost use Rattle.std.specs.Prelude.{◌≡◌, length};

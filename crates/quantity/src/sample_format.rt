@@ -4,20 +4,20 @@ ghost use Rattle.quantity.specs.declared.sample_format.Depth.TheVariants.{Ten, T
 ghost use Rattle.quantity.specs.declared.sample_format.Range.TheVariants.{Narrow, Full};
 ghost use Rattle.quantity.specs.SampleFormat.{fine, last_code, by_range, black, nominal_peak, least_taken, most_taken, format_of};
 
-#[derive(Drop)]
+#[derive(Clone, Copy)]
 pub enum Depth {
     Ten,
     Twelve,
 }
 
 // Narrow range keeps codes below black and above nominal peak; full range has these at its ends.
-#[derive(Drop)]
+#[derive(Clone, Copy)]
 pub enum Range {
     Narrow,
     Full,
 }
 
-#[derive(Drop)]
+#[derive(Clone, Copy)]
 pub struct SampleFormat {
     pub depth: Depth,
     pub range: Range,

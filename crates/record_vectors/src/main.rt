@@ -1,6 +1,8 @@
 // The calls of the measuring run over stored questions on standard input, all numbers high byte first: a byte whose bits 3 and 4 are depth and range, a
 // record in five 8-byte numbers (rows, pixels, position, row, pixel), the length of a row in two bytes, and the row. The answer is a line: what the row
 // makes of the record, and after a colon what the record itself has measured.
+#![tactic(auto)]
+
 ghost use Rattle.std.specs.Prelude.{◌≤◌};
 
 use big_endian::{byte_at, number_at};

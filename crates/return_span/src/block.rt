@@ -89,7 +89,7 @@ pub(crate) fn root_pixels(
 }
 
 // A pixel's samples and its codes.
-#[derive(Drop)]
+#[derive(Clone, Copy)]
 struct CodedPixel {
     red: u64,
     green: u64,

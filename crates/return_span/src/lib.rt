@@ -1,4 +1,6 @@
 // The fast conversion from HLG to PQ, of a span and of one pixel: any samples. The tables are filled once a call and lent.
+#![tactic(auto)]
+
 mod block;
 mod hint_table;
 mod hints;
@@ -22,7 +24,7 @@ use rows::fewer;
 use scene::rooted;
 
 // The PQ codes of a pixel, 64 to 779 each.
-#[derive(Drop)]
+#[derive(Clone, Copy)]
 pub struct Codes {
     pub red: u64,
     pub green: u64,

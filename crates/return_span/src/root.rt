@@ -18,7 +18,7 @@ const NEAR: u64 = 18;
 const ROUNDED: u64 = 4;
 
 // Two numbers that enclose the root of 2^96 × 5^11 × Y, the upper one 0 where none were found.
-#[derive(Drop)]
+#[derive(Clone, Copy)]
 pub(crate) struct Roots {
     pub low: u64,
     pub high: u64,

@@ -8,7 +8,7 @@ use crate::root::{Roots, roots_of};
 use inverse_oetf::scene_light_in;
 
 // A pixel's samples, their scene lights and the bounds of a root of their luminance.
-#[derive(Drop)]
+#[derive(Clone, Copy)]
 pub(crate) struct RootedPixel {
     pub red: u64,
     pub green: u64,
@@ -18,7 +18,7 @@ pub(crate) struct RootedPixel {
 }
 
 // The scene lights of a pixel.
-#[derive(Drop)]
+#[derive(Clone, Copy)]
 pub(crate) struct Scene {
     pub red: u64,
     pub green: u64,

@@ -2,6 +2,8 @@
 // The byte is 0 for the scene light of a code, 1 for the display lights of three scene lights, 2 for the PQ code of a light, 3 for whether a component has
 // a display light (luminance, scene light, light), 4 for the pixel call; 0 and 2 read the first number alone. The answer is a line: a number (1 where the
 // light is reached), three numbers, or `refused` with its number and place.
+#![tactic(auto)]
+
 ghost use Rattle.std.specs.Prelude.{◌≤◌};
 
 use big_endian::{byte_at, number_at};

@@ -1,6 +1,8 @@
 // A title copied from its first byte to its last, its card rewritten where it names no peak. No contract can say which bytes a system call reads or
 // writes: that the calls made here, in this order, give the rewritten title is `program_bytes_lem`. Whatever is amiss is told on standard error, so that a copy
 // of which nothing is told is whole.
+#![tactic(auto)]
+
 use libc::STDERR_FILENO;
 use metadata::after_metadata;
 use metadata::rewriting::{Rewriting, rewrite_metadata};

@@ -1,5 +1,7 @@
 // Rows of 16-bit samples, three to a pixel, high byte first: the tests 6 to 9 of a span, the samples that they read, and what calls on pixels
 // and rows answer. A call tests what else it refuses and converts what these accept.
+#![tactic(auto)]
+
 pub mod elements;
 pub mod host;
 
@@ -12,14 +14,14 @@ pub use host::host_number;
 use std::num::wrapping_sub_u64;
 
 // A span that was converted, or a refusal: its number and its place.
-#[derive(Drop)]
+#[derive(Clone, Copy)]
 pub enum RowAnswer {
     Converted,
     Refused(u64, u64),
 }
 
 // The three codes of a converted pixel, or a refusal: its number and its place.
-#[derive(Drop)]
+#[derive(Clone, Copy)]
 pub enum PixelAnswer {
     Codes(u64, u64, u64),
     Refused(u64, u64),

@@ -114,7 +114,7 @@ fn code_block(
 }
 
 // A pixel's samples and its mapped components.
-#[derive(Drop)]
+#[derive(Clone, Copy)]
 struct MappedPixel {
     red: u64,
     green: u64,
@@ -226,7 +226,7 @@ fn words_of(words: &[u64; 96], j: usize) -> Mapped
 }
 
 // A luminance and its root, or 0.
-#[derive(Drop)]
+#[derive(Clone, Copy)]
 struct Rooted {
     luminance: u64,
     root: u64,
@@ -266,7 +266,7 @@ fn find_roots(hints: &[u64; 1361], words: &[u64; 96], roots: &mut [u64; 32], pix
 }
 
 // Three mapped components and the samples that are delivered of their codes.
-#[derive(Drop)]
+#[derive(Clone, Copy)]
 struct CodedPixel {
     red: u64,
     green: u64,

@@ -12,7 +12,7 @@ use position::light_in;
 use quantity::{DisplayLight, Position, THOUSAND, smaller};
 
 // What the pixels of a call share of the curve: the peak in cd/m2, its position, and the least light that is bent.
-#[derive(Drop)]
+#[derive(Clone, Copy)]
 pub(crate) struct Curve {
     pub peak: u64,
     pub position: u64,

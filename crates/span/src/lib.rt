@@ -1,5 +1,7 @@
 // The fast conversion, of a span in either signal format and of one pixel: any samples under any declared peak. What pixels share, the tables and the
 // peak's position, is found once a call and lent.
+#![tactic(auto)]
+
 mod block;
 mod cell;
 mod cell_table;
@@ -39,7 +41,7 @@ use rows::fewer;
 use ycbcr::SignalFormat;
 
 // The three samples of a delivered pixel, in the order of a row.
-#[derive(Drop)]
+#[derive(Clone, Copy)]
 pub struct Samples {
     pub first: u64,
     pub second: u64,

@@ -107,7 +107,7 @@ fn linear_pixel(row: &[f32], j: usize) -> LinearPixel
 }
 
 // A pixel's lights and its mapped components, in units.
-#[derive(Drop)]
+#[derive(Clone, Copy)]
 struct LitPixel {
     red: u64,
     green: u64,

@@ -21,7 +21,7 @@ use quantity::{DisplayLight, Position, Source, brightest_of, larger, smaller};
 use words::{is_quotient, upper_word};
 
 // Three mapped components, in units.
-#[derive(Drop)]
+#[derive(Clone, Copy)]
 pub(crate) struct Mapped {
     pub red: u64,
     pub green: u64,
@@ -42,7 +42,7 @@ pub(crate) fn scaled(c: u64, m1: u64, m2: u64, factor: u64) -> u64
 }
 
 // The lights of a pixel's codes, in units, and the position of the brightest code.
-#[derive(Drop)]
+#[derive(Clone, Copy)]
 struct PixelLights {
     red: u64,
     green: u64,

@@ -1,4 +1,6 @@
 // The linear lights of sRGB values.
+#![tactic(auto)]
+
 mod lights; // lights.rt: the constant
 
 ghost use Rattle.std.specs.Prelude.{◌≡◌};
@@ -6,7 +8,7 @@ ghost use Rattle.srgb.specs.Light.{IsLinearLight};
 ghost use Rattle.srgb.specs.LightTable.{linear_table, linear_light};
 
 // Light of an sRGB display, in 1/2^40 of its white.
-#[derive(Drop)]
+#[derive(Clone, Copy)]
 pub struct LinearLight(pub u64);
 
 // The light of value v, and that it is the one that the rule asks for.

@@ -1,5 +1,7 @@
 // Captions from sRGB: one pixel, a span of a row, and the row call for a host in C. Eight-bit sRGB values in, HLG codes of ten bits and narrow range out; white
 // is three quarters of the HLG signal.
+#![tactic(auto)]
+
 mod code;
 mod hint_table;
 mod hints;

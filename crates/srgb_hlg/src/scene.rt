@@ -12,7 +12,7 @@ const FIVES: u64 = 9765625;
 const WEIGHT: u64 = 8388608;
 
 // A component's shares of red, green and blue light, in 1/(2 × 10^10): 53 times a row of the product of both matrices, since 0.265 is 53/200.
-#[derive(Drop)]
+#[derive(Clone, Copy)]
 pub(crate) struct Shares {
     pub red: u64,
     pub green: u64,

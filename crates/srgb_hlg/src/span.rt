@@ -58,7 +58,7 @@ const BLUE_WEIGHTS: Shares = Shares {
 };
 
 // A pixel's values and its codes.
-#[derive(Drop)]
+#[derive(Clone, Copy)]
 struct CodedPixel {
     red: u64,
     green: u64,

@@ -1,5 +1,7 @@
 // The light of a value and the pixel call of captions over stored questions on standard input: a byte for the call and three sRGB values. The byte is 0 for the
 // light of the first value, else for the pixel call. The answer is a line: the light in 1/2^40, or three codes.
+#![tactic(auto)]
+
 use hlg::Codes;
 use libc::{STDIN_FILENO, STDOUT_FILENO};
 use srgb::light_of_value;

@@ -6,7 +6,7 @@ use big_endian::number_at;
 use metadata::{SourceAnswer, after_metadata, bytes_wanted, source_of_metadata};
 use quantity::Source;
 
-#[derive(Drop)]
+#[derive(Clone, Copy)]
 pub enum Opening {
     // what is declared of the picture, and the pixels of each row
     Rows(Source, usize),

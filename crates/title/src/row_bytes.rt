@@ -2,7 +2,7 @@
 ghost use Rattle.std.specs.Prelude.{◌≡◌};
 ghost use Rattle.title.specs.Rows.{row_bytes};
 
-#[derive(Drop)]
+#[derive(Clone, Copy)]
 pub enum RowBytes {
     // all bytes of a row
     Whole,

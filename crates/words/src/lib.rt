@@ -1,4 +1,6 @@
 // Whole numbers of any size in 64-bit words, the lowest word first, without 128-bit integers.
+#![tactic(auto)]
+
 pub mod leading;
 pub mod multiple;
 pub mod order;
