@@ -6,11 +6,10 @@ ghost use Rattle.std.specs.Prelude.{◌≡◌, ◌-◌, ◌*◌, ◌/◌, ◌^�
 ghost use Rattle.std.specs.Float.Ieee.{lt};
 ghost use Rattle.quantity.specs.Units.{units};
 ghost use Rattle.linear_light.specs.LinearLight.{no_light, most_light, class_of, finite, class_answer, counted_as, magnitude, whole_light};
-ghost use Rattle.linear_light.specs.Row.{first_not_finite, linear_span_answer};
+ghost use Rattle.linear_light.specs.Row.{values_refused, first_not_finite, linear_span_answer};
 
 use quantity::DisplayLight;
-use rows::elements::test_elements;
-use rows::{RowAnswer, fewer};
+use rows::{RowAnswer, fewer, refuses_span};
 use std::num::truncating_f64_to_u64;
 
 // A linear pixel as it is read, before its values are classed.
@@ -99,15 +98,30 @@ pub fn is_finite(x: f32) -> bool
 pub fn test_linear_span(row: &[f32], bytes: usize, first: usize, end: usize) -> RowAnswer
     ensures { result ≡ linear_span_answer row.now bytes first end }
 {
-    let answer = test_elements(15, row.len(), bytes, first, end);
-    if let RowAnswer::Refused(_, _) = answer {
-        return answer;
+    if refuses_values(row.len()) {
+        return RowAnswer::Refused(15, 0);
+    }
+    if bytes != 2 * row.len() {
+        return RowAnswer::Refused(7, 0);
+    }
+    if refuses_span(row.len() / 3, first, end) {
+        return RowAnswer::Refused(8, 0);
     }
     let i = first_not_finite(row, 3 * first, 3 * end);
     if i < 3 * end {
         return RowAnswer::Refused(16, i as u64);
     }
     RowAnswer::Converted
+}
+
+// Test 15: no row has more than 8,192 pixels.
+pub fn refuses_values(n: usize) -> bool
+    ensures { result ≡ values_refused n }
+{
+    if n % 3 != 0 {
+        return true;
+    }
+    24576 < n
 }
 
 // The first of the row's values from .. to that is infinite or no number; where none is, the one after them.

@@ -4,17 +4,16 @@ use mathlib.Core.Bool.{false}
 use mathlib.Core.List.{List, ◌++◌}
 use Prim.Native.Nat.{ℕ, ◌-◌, ◌*◌, ◌≤◌}
 use native.Mathlib.Omega.{arith}
-use lib.Ieee.{Float, nan}
+use lib.Ieee.{Float}
 use lib.ListN.{length, take, drop}
 use Rattle.eetf.specs.Curve.{peak_read}
 use Rattle.rows.specs.declared.RowAnswer.{RowAnswer}
 use Rattle.rows.specs.declared.RowAnswer.TheVariants.{Converted}
 use Rattle.rows.specs.Answer.{host_number}
 use Rattle.rows.proofs.AnswerLaws.{either, refused_not_converted}
-use Rattle.rows.proofs.ElementLaws.{AcceptedElements, converted_after}
-use Rattle.linear_light.specs.Conversion.{values, linear_code}
+use Rattle.linear_light.specs.Conversion.{linear_code}
 use Rattle.linear_light.specs.Row.{linear_into}
-use Rattle.linear_light.proofs.RowLaws.{host_number_fits}
+use Rattle.linear_light.proofs.RowLaws.{Accepted, host_number_fits, converted_after}
 use Rattle.linear_light.proofs.RowLaws as linear
 use Rattle.pq_hlg.specs.Pixel.{peak_refused}
 use Rattle.pq_hlg.specs.Linear.{linear_row_answer, linear_after}
@@ -25,10 +24,10 @@ pub peak_read_lem : (peak : ℕ) → peak_refused peak ≡ false → peak_read p
 peak_read_lem peak e = omega (arith, peak_taken peak e)
 
 module _ (peak : ℕ) (row : List Float) (bytes first end : ℕ) where
-  pub accepted : linear_row_answer peak row bytes first end ≡ Converted → (peak_refused peak ≡ false) × AcceptedElements (length row) bytes first end
+  pub accepted : linear_row_answer peak row bytes first end ≡ Converted → (peak_refused peak ≡ false) × Accepted row bytes first end
   unfolding linear_row_answer
   accepted =
-      let P : RowAnswer → Type 0 = λ a. a ≡ Converted → (peak_refused peak ≡ false) × AcceptedElements (length row) bytes first end in
+      let P : RowAnswer → Type 0 = λ a. a ≡ Converted → (peak_refused peak ≡ false) × Accepted row bytes first end in
       either P (peak_refused peak) _ _ (λ _. refused_not_converted) (λ p h. (p, linear.accepted row bytes first end h))
 
   pub number_fits : host_number (linear_row_answer peak row bytes first end) ≤ 6291456
@@ -44,4 +43,4 @@ pub converted_row : (peak : ℕ) (row : List Float) (dst : List ℕ) (first end 
 unfolding linear_after
 converted_row peak row dst first end ys to e y at_end =
     let tested = accepted peak row (length dst) first end e in
-    converted_after values nan (linear_code peak) row dst first end ys to e tested.1 at_end (rw (peak_read_lem peak tested.0) at y)
+    converted_after (linear_code peak) row dst first end ys to e tested.1 at_end (rw (peak_read_lem peak tested.0) at y)

@@ -5,7 +5,7 @@ use lib.ListN.{length}
 use borrow.Author.Rules.{rules}
 use Rattle.rows.specs.declared.RowAnswer.TheVariants.{Converted}
 use Rattle.rows.proofs.AnswerLaws.{refused_after}
-use Rattle.rows.proofs.ElementLaws.{AcceptedElements}
+use Rattle.linear_light.proofs.RowLaws.{Accepted}
 use Rattle.pq_hlg.specs.Linear.{linear_row_answer, linear_after}
 use Rattle.pq_hlg.proofs.LinearLaws.{accepted, converted_row}
 use Rattle.pq_hlg.proofs.linear.convert_linear_row.Statement.{statement}
@@ -17,7 +17,7 @@ converted : (c : tie.After-enum-told2) → let a = c.before.before.before.before
 converted c = sym c.before.before.test_linear_row.ensures ∙ c.enum_told2.given.1
 
 tested : (c : tie.After-enum-told2) → let a = c.before.before.before.before.before.args in
-    AcceptedElements (length a.row.now) (length a.dst.now) a.first a.end
+    Accepted a.row.now (length a.dst.now) a.first a.end
 tested c = (accepted _ _ _ _ _ (converted c)).1
 
 returns : tie.Need-returns

@@ -1,12 +1,11 @@
 -- `span::block::map_block` meets its contract: the pixels of the part that is lent are the row's from pixel j on.
 use Rattle.std.proofs.Common.{ℕ, ◌+◌, ◌-◌, ◌*◌, ◌≤◌, Bool, length, take, drop, ap, ◌∙◌, subst, ap₂, arith, length-drop, length-take, rules}
-use lib.Ieee.{nan}
 use Rattle.quantity.specs.Units.{units}
 use Rattle.position.specs.Position.{position_of}
 use Rattle.pixel.specs.Conversion.{mapped}
 use Rattle.rows.proofs.RowLaws.{pixel_of_part}
-use Rattle.rows.proofs.ElementLaws as elements
-use Rattle.linear_light.specs.Conversion.{values, linear_mapped}
+use Rattle.linear_light.specs.Conversion.{linear_mapped}
+use Rattle.linear_light.proofs.RowLaws as linear
 use Rattle.span.specs.Block.{mapped_row}
 use Rattle.span.specs.Linear.{mapped_floats, HasPixels}
 use Rattle.span.proofs.BlockLaws.{mapped_same}
@@ -41,7 +40,7 @@ returns c =
     of_kind a.source a.src.now a.values.now a.j a.pixels _ there.if1.true
     (mapped_same (mapped_floats a.curve.peak (take n (drop (3 * a.j) a.values.now)))
     (λ k. mapped_floats a.source.peak a.values.now (a.j + k)) _ _
-    (λ k h. ap₂ linear_mapped s.requires.2 (elements.pixel_of_part values nan a.values.now (3 * a.j) n k (a.j + k) (omega arith) (omega arith)))
+    (λ k h. ap₂ linear_mapped s.requires.2 (linear.pixel_of_part a.values.now (3 * a.j) n k (a.j + k) (omega arith) (omega arith)))
     c.map_linear_pixels.ensures)
 
 map_pixels_requires : tie.Need-map-pixels-requires
