@@ -57,7 +57,7 @@ fn read_component(light: DisplayLight) -> DisplayLight
 // The largest of the codes from + 1 .. from + span that a component r reaches in a pixel of luminance y, else from. The span falls.
 fn search_code(steps: &[u64; 955], y: u64, r: DisplayLight, from: u64, span: u64) -> u64
     requires { (steps.now ≡ step_table) × (y < 2 ^ 48) × (r.0 < 2 ^ 34) × (from + span < 2 ^ 64) }
-    ensures* { λ d. ⌜ d ≡ largest (λ (d : ℕ). reaches (step d) y r.0) from span ⌝ }
+    ensures { result ≡ largest (λ (d : ℕ). reaches (step d) y r.0) from span }
 {
     if span == 0 {
         return from;

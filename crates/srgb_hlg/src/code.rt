@@ -57,7 +57,7 @@ pub(crate) fn exact_code(steps: &[u64; 955], light: u64) -> u64
 // The largest of the codes from + 1 .. from + span whose step is at most the light, else from. The span falls.
 fn search_code(steps: &[u64; 955], light: u64, from: u64, span: u64) -> u64
     requires { (steps.now ≡ step_table) × (from + span ≤ 1019) }
-    ensures* { λ d. ⌜ d ≡ largest (λ (d : ℕ). nat_le (step d) light) from span ⌝ }
+    ensures { result ≡ largest (λ (d : ℕ). nat_le (step d) light) from span }
 {
     if span == 0 {
         return from;
