@@ -14,6 +14,8 @@ import os
 import re
 import sys
 
+# an operator's law whose word names no function: a plain word hangs on by an underscore, as the toolchain has it in `≼_refl`
+LAW = re.compile(r"([≼≺≈⊞⊟⊠⊘])-(refl|sym|trans|comm|cong|left|cancel)\b")
 NAME = re.compile(r"[A-Za-z_αβγδλμκτ](?:[\w'′]|-(?=[\w'′]))*[→←]?")
 USE = re.compile(r"(?:ghost\s+)?use\s+([\w.+'′·-]+?)\.\{([^}]*)\}|(?:ghost\s+)?use\s+([\w.+'′·-]+)(?:\s+as\s+([\w'′-]+))?", re.S)
 CLAUSE = re.compile(r"(?:requires|ensures|invariant)\s*\*?\s*(?:[\w]+\s*)?\{|ghost\s+\w+\s*:\s*\{|ghost\s+use\b")
@@ -106,7 +108,7 @@ def turn_words(text, kept, said, only=None):
             said[name] = new
         return new
 
-    return NAME.sub(one, text)
+    return LAW.sub(r"\1_\2", NAME.sub(one, text))
 
 
 def turn_antt(f, own, said):

@@ -9,7 +9,7 @@ use Rattle.laws.proofs.PowerLaws.{powers}
 use Rattle.eetf.specs.Curve.{spline}
 use Rattle.eetf.specs.Hermite.{Signed, number, ◌∕◌, ◌⊞◌, ◌⊟◌, ◌⊠◌, ◌⊘◌, ◌², ◌³, ◌≈◌, ◌≼◌, ◌≺◌, IsFloor, KS, T, P, hermite, short}
 use Rattle.eetf.proofs.FloorLaws.{FloorOfDifference}
-use Rattle.eetf.proofs.SignedLaws.{≈-refl, ≈-sym, ≈-trans, ⊠-cong, ⊞-cong, ⊟-cong, ⊘-cong, ≼-≈, ≈-≺}
+use Rattle.eetf.proofs.SignedLaws.{≈_refl, ≈_sym, ≈_trans, ⊠_cong, ⊞_cong, ⊟_cong, ⊘_cong, ≼-≈, ≈-≺}
 use Rattle.eetf.proofs.SplineLaws.{spline_floor}
 
 abbrev signed : ℕ → ℕ → ℕ → Signed
@@ -46,25 +46,25 @@ module _ (τ : Signed) (p n d : ℕ) (h : 0 < d) (g : τ ≈ signed p n d) where
   e_pos = mul-pos (mul-pos h h) h
 
   cube : τ ³ ≈ signed (cube⁺ p n) (cube⁻ p n) e
-  cube = ≈-trans (⊠-cong (⊠-cong g g) g) (record { cross = omega arith; low = e_pos; high = e_pos })
+  cube = ≈_trans (⊠_cong (⊠_cong g g) g) (record { cross = omega arith; low = e_pos; high = e_pos })
 
   square : τ ² ≈ signed (square⁺ p n d) (square⁻ p n d) e
-  square = ≈-trans (⊠-cong g g) (record { cross = omega arith; low = mul-pos h h; high = e_pos })
+  square = ≈_trans (⊠_cong g g) (record { cross = omega arith; low = mul-pos h h; high = e_pos })
 
   itself : τ ≈ signed (d * d * p) (d * d * n) e
-  itself = ≈-trans g (record { cross = omega arith; low = h; high = e_pos })
+  itself = ≈_trans g (record { cross = omega arith; low = h; high = e_pos })
 
   unit : number 1 ≈ signed e 0 e
   unit = record { cross = omega arith; low = omega arith; high = e_pos }
 
   times : (k a b : ℕ) {r : Signed} → r ≈ signed a b e → number k ⊠ r ≈ signed (k * a) (k * b) e
-  times k a b g = ≈-trans (⊠-cong (≈-refl (number k) (omega arith)) g) (scale k a b e e_pos)
+  times k a b g = ≈_trans (⊠_cong (≈_refl (number k) (omega arith)) g) (scale k a b e e_pos)
 
   less : (a b a' b' : ℕ) {r s : Signed} → r ≈ signed a b e → s ≈ signed a' b' e → r ⊟ s ≈ signed (a + b') (b + a') e
-  less a b a' b' f g = ≈-trans (⊟-cong f g) (sub_same a b a' b' e e_pos)
+  less a b a' b' f g = ≈_trans (⊟_cong f g) (sub_same a b a' b' e e_pos)
 
   more : (a b a' b' : ℕ) {r s : Signed} → r ≈ signed a b e → s ≈ signed a' b' e → r ⊞ s ≈ signed (a + a') (b + b') e
-  more a b a' b' f g = ≈-trans (⊞-cong f g) (add_same a b a' b' e e_pos)
+  more a b a' b' f g = ≈_trans (⊞_cong f g) (add_same a b a' b' e e_pos)
 
   -- 2T³ − 3T² + 1
   at_knee : number 2 ⊠ τ ³ ⊟ number 3 ⊠ τ ² ⊞ number 1 ≈
@@ -102,8 +102,8 @@ combine a⁺ a⁻ b⁺ b⁻ z⁺ z⁻ e J H β p q =
     let u⁻ = z⁺ * 0 + z⁻ * (2 * J) in
     let one = add_same x⁺ x⁻ y⁺ y⁻ g gp in
     let two = add_same (x⁺ + y⁺) (x⁻ + y⁻) u⁺ u⁻ g gp in
-    let sum = ≈-trans (⊞-cong one (≈-refl (signed u⁺ u⁻ g) gp)) two in
-    ≈-trans (⊠-cong sum (≈-refl (number H) (omega arith))) (cancel (x⁺ + y⁺ + u⁺) (x⁻ + y⁻ + u⁻) e H p q)
+    let sum = ≈_trans (⊞_cong one (≈_refl (signed u⁺ u⁻ g) gp)) two in
+    ≈_trans (⊠_cong sum (≈_refl (number H) (omega arith))) (cancel (x⁺ + y⁺ + u⁺) (x⁻ + y⁻ + u⁻) e H p q)
 
 -- ---- the numbers of P × H at T = (2X + H − 3J) / (3β), where H = J + β
 abbrev top⁺ : ℕ → ℕ → ℕ → ℕ
@@ -180,17 +180,17 @@ module _ (X J β : ℕ) (h : 0 < β) where
   ks_is = record { cross = omega arith; low = omega arith; high = omega arith }
 
   rest_is : number 1 ⊟ ks ≈ signed (3 * β) 0 (2 * H)
-  rest_is = ≈-trans (⊟-cong (≈-refl (number 1) (omega arith)) ks_is) (record { cross = omega arith; low = omega arith; high = omega arith })
+  rest_is = ≈_trans (⊟_cong (≈_refl (number 1) (omega arith)) ks_is) (record { cross = omega arith; low = omega arith; high = omega arith })
 
   start_is : X ∕ H ⊟ ks ≈ signed (2 * X + H) (3 * J) (2 * H)
   start_is =
-      ≈-trans (⊟-cong (≈-refl (X ∕ H) H_pos) ks_is)
+      ≈_trans (⊟_cong (≈_refl (X ∕ H) H_pos) ks_is)
       (record { cross = omega arith; low = omega (arith, mul-pos H_pos H_pos); high = omega arith })
 
   T_is : T (X ∕ H) ks ≈ signed (2 * X + H) (3 * J) (3 * β)
   unfolding T
   T_is =
-      ≈-trans (⊘-cong (3 * β) (2 * H) (omega arith) start_is rest_is)
+      ≈_trans (⊘_cong (3 * β) (2 * H) (omega arith) start_is rest_is)
       (record { cross = omega arith; low = omega (arith, mul-pos H_pos h); high = omega arith })
 
   max_lum_is : J ∕ H ≈ signed (2 * J) 0 (2 * H)
@@ -205,8 +205,8 @@ module _ (X J β : ℕ) (h : 0 < β) where
       let f = at_knee τ (2 * X + H) (3 * J) d dp T_is in
       let s = at_slope τ (2 * X + H) (3 * J) d dp T_is in
       let t = at_end τ (2 * X + H) (3 * J) d dp T_is in
-      let sum = ⊞-cong (⊞-cong (⊠-cong f ks_is) (⊠-cong s rest_is)) (⊠-cong t max_lum_is) in
-      ≈-trans (⊠-cong sum (≈-refl (number H) (omega arith)))
+      let sum = ⊞_cong (⊞_cong (⊠_cong f ks_is) (⊠_cong s rest_is)) (⊠_cong t max_lum_is) in
+      ≈_trans (⊠_cong sum (≈_refl (number H) (omega arith)))
       (combine _ _ _ _ _ _ (d * d * d) J H β (mul-pos (mul-pos dp dp) dp) H_pos)
 
   short_is : short X J H ≈ signed (27 * (β * β * J) + 4 * cube⁻ H X) (4 * cube⁺ H X) (27 * (β * β))
@@ -217,15 +217,15 @@ module _ (X J β : ℕ) (h : 0 < β) where
       let gap : number H ⊟ number J ≈ β ∕ 1 = record { cross = omega arith; low = omega arith; high = omega arith } in
       let top = times (number H ⊟ number X) H X 1 (omega arith) diff 4 _ _ (cube (number H ⊟ number X) H X 1 (omega arith) diff) in
       let bottom : number 27 ⊠ (number H ⊟ number J) ² ≈ (27 * (β * β)) ∕ 1 =
-      ≈-trans (⊠-cong (≈-refl (number 27) (omega arith)) (⊠-cong gap gap))
+      ≈_trans (⊠_cong (≈_refl (number 27) (omega arith)) (⊠_cong gap gap))
       (record { cross = omega arith; low = omega arith; high = omega arith }) in
-      ≈-trans (⊟-cong (≈-refl (number J) (omega arith)) (⊘-cong (27 * (β * β)) 1 pos top bottom))
+      ≈_trans (⊟_cong (≈_refl (number J) (omega arith)) (⊘_cong (27 * (β * β)) 1 pos top bottom))
       (record { cross = omega arith; low = omega (arith, pos); high = pos })
 
   same : hermite X J H ≈ short X J H
   same =
-      ≈-trans hermite_is
-      (≈-trans (record { cross = identity X J β; low = omega (arith, mul-pos (mul-pos h h) h); high = omega (arith, mul-pos h h) }) (≈-sym short_is))
+      ≈_trans hermite_is
+      (≈_trans (record { cross = identity X J β; low = omega (arith, mul-pos (mul-pos h h) h); high = omega (arith, mul-pos h h) }) (≈_sym short_is))
 
 -- ---- document 002's spline is J − 4(H − X)³ / (27(H − J)²)
 pub hermite_is_short : (X J H : ℕ) → J < H → hermite X J H ≈ short X J H
@@ -264,8 +264,8 @@ module _ (m t b a s : ℕ) (eq : t + b ≡ m + a) (pos : 0 < b) (f : FloorOfDiff
 
   floor_of_hermite : IsFloor (hermite m t (m + a)) s
   floor_of_hermite =
-      let e = ≈-trans (hermite_is_short m t (m + a) (omega arith)) value_is in
-      record { low = ≼-≈ value_low (≈-sym e); high = ≈-≺ e value_high }
+      let e = ≈_trans (hermite_is_short m t (m + a) (omega arith)) value_is in
+      record { low = ≼-≈ value_low (≈_sym e); high = ≈-≺ e value_high }
 
 -- The engine's spline, from the knee to the peak, is document 002's, rounded down to a position.
 pub hermite_is_spline : (t w m : ℕ) → t < w → w ≤ 3 * t → m ≤ w → 3 * t ≤ 2 * m + w → IsFloor (hermite m t w) (spline t w m)

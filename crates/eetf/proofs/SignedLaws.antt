@@ -7,14 +7,14 @@ use native.Mathlib.Omega.{arith}
 use Rattle.laws.proofs.DivisionLaws.{sub_mul}
 use Rattle.eetf.specs.Hermite.{Signed, ◌∕◌, ◌⊞◌, ◌⊟◌, ◌⊠◌, ◌⊘◌, ◌≈◌, ◌≼◌, ◌≺◌}
 
-pub ≈-refl : (r : Signed) → 0 < r.den → r ≈ r
-≈-refl r p = record { cross = refl; low = p; high = p }
+pub ≈_refl : (r : Signed) → 0 < r.den → r ≈ r
+≈_refl r p = record { cross = refl; low = p; high = p }
 
-pub ≈-sym : {r s : Signed} → r ≈ s → s ≈ r
-≈-sym h = omega arith
+pub ≈_sym : {r s : Signed} → r ≈ s → s ≈ r
+≈_sym h = omega arith
 
-pub ≈-trans : {r s t : Signed} → r ≈ s → s ≈ t → r ≈ t
-≈-trans {r} {s} {t} h k =
+pub ≈_trans : {r s t : Signed} → r ≈ s → s ≈ t → r ≈ t
+≈_trans {r} {s} {t} h k =
     record {
       cross = eq_of_mul-eq-mul_left s.den k.low _ _ (omega (arith, ap (λ u. u * t.den) h.cross, ap (λ u. u * r.den) k.cross));
       low = h.low;
@@ -22,48 +22,48 @@ pub ≈-trans : {r s t : Signed} → r ≈ s → s ≈ t → r ≈ t
     }
 
 -- ---- products
-⊠-left : {r s : Signed} (t : Signed) → 0 < t.den → r ≈ s → r ⊠ t ≈ s ⊠ t
-⊠-left {r} {s} t p h =
+⊠_left : {r s : Signed} (t : Signed) → 0 < t.den → r ≈ s → r ⊠ t ≈ s ⊠ t
+⊠_left {r} {s} t p h =
     record {
       cross = omega (arith, ap (λ u. u * (t.plus * t.den)) h.cross, ap (λ u. u * (t.minus * t.den)) h.cross);
       low = mul-pos h.low p;
       high = mul-pos h.high p;
     }
 
-⊠-comm : (r t : Signed) → 0 < r.den → 0 < t.den → r ⊠ t ≈ t ⊠ r
-⊠-comm r t p q = record { cross = omega arith; low = mul-pos p q; high = mul-pos q p }
+⊠_comm : (r t : Signed) → 0 < r.den → 0 < t.den → r ⊠ t ≈ t ⊠ r
+⊠_comm r t p q = record { cross = omega arith; low = mul-pos p q; high = mul-pos q p }
 
-pub ⊠-cong : {r s t u : Signed} → r ≈ s → t ≈ u → r ⊠ t ≈ s ⊠ u
-⊠-cong {r} {s} {t} {u} h k =
-    ≈-trans (⊠-left t k.low h)
-    (≈-trans (⊠-comm s t h.high k.low) (≈-trans (⊠-left s h.high k) (⊠-comm u s k.high h.high)))
+pub ⊠_cong : {r s t u : Signed} → r ≈ s → t ≈ u → r ⊠ t ≈ s ⊠ u
+⊠_cong {r} {s} {t} {u} h k =
+    ≈_trans (⊠_left t k.low h)
+    (≈_trans (⊠_comm s t h.high k.low) (≈_trans (⊠_left s h.high k) (⊠_comm u s k.high h.high)))
 
 -- ---- sums and differences
-⊞-left : {r s : Signed} (t : Signed) → 0 < t.den → r ≈ s → r ⊞ t ≈ s ⊞ t
-⊞-left {r} {s} t p h =
+⊞_left : {r s : Signed} (t : Signed) → 0 < t.den → r ≈ s → r ⊞ t ≈ s ⊞ t
+⊞_left {r} {s} t p h =
     record { cross = omega (arith, ap (λ u. u * (t.den * t.den)) h.cross); low = mul-pos h.low p; high = mul-pos h.high p }
 
-⊞-comm : (r t : Signed) → 0 < r.den → 0 < t.den → r ⊞ t ≈ t ⊞ r
-⊞-comm r t p q = record { cross = omega arith; low = mul-pos p q; high = mul-pos q p }
+⊞_comm : (r t : Signed) → 0 < r.den → 0 < t.den → r ⊞ t ≈ t ⊞ r
+⊞_comm r t p q = record { cross = omega arith; low = mul-pos p q; high = mul-pos q p }
 
-pub ⊞-cong : {r s t u : Signed} → r ≈ s → t ≈ u → r ⊞ t ≈ s ⊞ u
-⊞-cong {r} {s} {t} {u} h k =
-    ≈-trans (⊞-left t k.low h)
-    (≈-trans (⊞-comm s t h.high k.low) (≈-trans (⊞-left s h.high k) (⊞-comm u s k.high h.high)))
+pub ⊞_cong : {r s t u : Signed} → r ≈ s → t ≈ u → r ⊞ t ≈ s ⊞ u
+⊞_cong {r} {s} {t} {u} h k =
+    ≈_trans (⊞_left t k.low h)
+    (≈_trans (⊞_comm s t h.high k.low) (≈_trans (⊞_left s h.high k) (⊞_comm u s k.high h.high)))
 
 abbrev minus_of : Signed → Signed
 minus_of t = record { plus = t.minus; minus = t.plus; den = t.den }
 
-pub ⊟-cong : {r s t u : Signed} → r ≈ s → t ≈ u → r ⊟ t ≈ s ⊟ u
-⊟-cong {r} {s} {t} {u} h k =
-    ⊞-cong {t = minus_of t} {u = minus_of u} h (record { cross = omega (arith, k.cross); low = k.low; high = k.high })
+pub ⊟_cong : {r s t u : Signed} → r ≈ s → t ≈ u → r ⊟ t ≈ s ⊟ u
+⊟_cong {r} {s} {t} {u} h k =
+    ⊞_cong {t = minus_of t} {u = minus_of u} h (record { cross = omega (arith, k.cross); low = k.low; high = k.high })
 
 -- ---- dividing by k / e is multiplying by e / k
 positive_part : (t : Signed) (k e : ℕ) → t ≈ k ∕ e → (t.plus - t.minus) * e ≡ k * t.den
 positive_part t k e g = sub_mul t.plus t.minus e ∙ omega (arith, g.cross)
 
-pub ⊘-cong : {r s t : Signed} (k e : ℕ) → 0 < k → r ≈ s → t ≈ k ∕ e → r ⊘ t ≈ s ⊠ e ∕ k
-⊘-cong {r} {s} {t} k e p h g = ≈-trans inside (⊠-left (e ∕ k) p h)
+pub ⊘_cong : {r s t : Signed} (k e : ℕ) → 0 < k → r ≈ s → t ≈ k ∕ e → r ⊘ t ≈ s ⊠ e ∕ k
+⊘_cong {r} {s} {t} k e p h g = ≈_trans inside (⊠_left (e ∕ k) p h)
   where
     D : ℕ
     D = t.plus - t.minus

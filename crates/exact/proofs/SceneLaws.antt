@@ -6,7 +6,7 @@ use native.Mathlib.Decide.{dec_le}
 use native.Mathlib.Omega.{arith}
 use Rattle.laws.specs.Fraction.{Fraction, over, ◌≼◌, ◌·◌, ◌↑◌}
 use Rattle.laws.specs.Side.{Side, low, high}
-use Rattle.laws.proofs.FractionLaws.{≼_refl, ≼_trans, ≼-product, ≼-power, ≼-root, ≼-cancel}
+use Rattle.laws.proofs.FractionLaws.{≼_refl, ≼_trans, ≼-product, ≼-power, ≼-root, ≼_cancel}
 use Rattle.quantity.specs.Units.{thousand}
 use Rattle.quantity.specs.Component.{Component, red, green, blue, Pixel, weighted}
 use Rattle.hlg_steps.specs.Steps.{scene}
@@ -39,7 +39,7 @@ module _ {G : Given} (S : Sound G) {peak : ℕ} where
       let own : x.own ≼ y.own = record { cross = omega (arith, (owns_apart S _ _ x.own_light y.own_light).cross) } in
       let bent = bent_light_ordered S peak x.bent_light y.bent_light in
       let most : y.most ≼ x.most = record { cross = omega (arith, (mosts_apart S _ _ y.most_light x.most_light).cross) } in
-      ≼-cancel x.most x.some (≼_trans below (≼_trans (≼-product own bent) (≼_trans above (≼-product (≼_refl t) most))))
+      ≼_cancel x.most x.some (≼_trans below (≼_trans (≼-product own bent) (≼_trans above (≼-product (≼_refl t) most))))
 
   results_apart : {i : Component} (s t : Side) {r u : Fraction} → Result G s peak i r → Result G t peak i u → Apart s t r u
   results_apart {i} s t a b = by_sides (λ r. r) (λ u r. Result G u peak i r) (λ r u. result_ordered) s t a b
@@ -84,7 +84,7 @@ module _ {G : Given} (S : Sound G) {peak : ℕ} where
       (λ j. record { cross = omega (arith, (results_apart _ _ (y.results j) (x.results j)).cross) }) in
       let lit_luminance_lem = luminance_pos x.r x.z x.pos h x.results in
       ≼-root 6 (λ z. omega arith)
-      (≼-cancel upper lit_luminance_lem (≼_trans below (≼_trans (≼-power 6 owns) (≼_trans above (≼-product (≼_refl (scene f ↑ 6)) luminances)))))
+      (≼_cancel upper lit_luminance_lem (≼_trans below (≼_trans (≼-power 6 owns) (≼_trans above (≼-product (≼_refl (scene f ↑ 6)) luminances)))))
 
   pub scene_lights_apart : {i : Component} (s t : Side) {e f : ℕ} → 0 < G.level → SceneLight G s peak i e → SceneLight G t peak i f
       → Apart s t (scene e) (scene f)

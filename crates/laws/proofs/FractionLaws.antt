@@ -49,8 +49,8 @@ pub ≼-power : {p q : Fraction} (n : ℕ) → p ≼ q → p ↑ n ≼ q ↑ n
 pub ≼-root : {p q : Fraction} (n : ℕ) → n ≢ 0 → p ↑ n ≼ q ↑ n → p ≼ q
 ≼-root {p} {q} n ne h = record { cross = cross_root n p.num p.den q.num q.den ne h.cross }
 
-pub ≼-cancel : {p q : Fraction} (m : Fraction) → 0 < m.num → p · m ≼ q · m → p ≼ q
-≼-cancel m h x = record { cross = le_of_mul-le-mul_right {k = m.num * m.den} (omega (arith, x.cross)) (mul-pos h m.pos) }
+pub ≼_cancel : {p q : Fraction} (m : Fraction) → 0 < m.num → p · m ≼ q · m → p ≼ q
+≼_cancel m h x = record { cross = le_of_mul-le-mul_right {k = m.num * m.den} (omega (arith, x.cross)) (mul-pos h m.pos) }
 
 -- 0 is at most every fraction, and what is at most 0 is 0
 pub zero-≼ : {p : Fraction} (q : Fraction) → p.num ≡ 0 → p ≼ q
