@@ -1,9 +1,8 @@
 -- `rows::is_outside` meets its contract: a sample's difference from the least is past the range's width just where the sample is outside.
-use Rattle.std.proofs.Common.{◌≡◌, ℕ, ◌+◌, ◌-◌, ◌%◌, ◌^◌, ◌<◌, ◌≤◌, true, ltb, sym, ◌∙◌, arith, rules, le-ltb, lt-ltb}
+use Rattle.std.proofs.Common.{◌≡◌, ℕ, ◌+◌, ◌-◌, ◌%◌, ◌^◌, ◌<◌, ◌≤◌, true, ltb, sym, ◌∙◌, arith, le-ltb, lt-ltb}
 use native.Mathlib.Decide.{dec_le, dec_lt}
 use Rattle.rows.specs.Answer.{outside}
-use Rattle.rows.proofs.is_outside.Statement.{statement}
-use Rattle.rows.proofs.is_outside.Tie as tie
+use Rattle.rows.proofs.is_outside.Goals as goal
 
 below : (d least most : ℕ) → d < least → outside least most d ≡ true
 unfolding outside
@@ -30,11 +29,8 @@ wrapped d least most r h b c e = go (dec_lt d least) (dec_le d most)
     go (no l) (yes k) = le-ltb (most - least) r (omega arith) ∙ sym (from_least d least most (omega arith) ∙ le-ltb most d k)
     go (no l) (no k) = lt-ltb (most - least) r (omega arith) ∙ sym (from_least d least most (omega arith) ∙ lt-ltb most d (omega arith))
 
-returns : tie.Need-returns
-returns c = empty _ _ _ c.if1.true
+pub returns-then-most-least : goal.returns-then-most-least
+returns-then-most-least c = empty _ _ _ c.if-most-least.true
 
-returns_2 : tie.Need-returns-2
-returns_2 c = wrapped _ _ _ _ (omega arith) (omega arith) (omega arith) c.wrapping_sub_u64.ensures
-
-pub is_outside_spec : {M : Type 1} → statement M
-is_outside_spec = tie.close (tie.spec returns (λ c κs. search rules) returns_2)
+pub returns : goal.returns
+returns c = wrapped _ _ _ _ (omega arith) (omega arith) (omega arith) c.wrapping_sub_u64.ensures.value
