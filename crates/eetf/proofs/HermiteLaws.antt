@@ -7,7 +7,7 @@ use native.Mathlib.Omega.{arith}
 use Rattle.laws.proofs.Polynomial.{E, #◌, ◌⊕◌, ◌⊗◌, ◌≐◌, Quoted, ring}
 use Rattle.laws.proofs.PowerLaws.{powers}
 use Rattle.eetf.specs.Curve.{spline}
-use Rattle.eetf.specs.Hermite.{Signed, number, ◌∕◌, ◌⊞◌, ◌⊟◌, ◌⊠◌, ◌⊘◌, ◌², ◌³, ◌≈◌, ◌≼◌, ◌≺◌, IsFloor, KS, T, P, hermite, short}
+use Rattle.eetf.specs.Hermite.{Signed, number, ◌∕◌, ◌⊞◌, ◌⊟◌, ◌⊠◌, ◌², ◌³, ◌≈◌, ◌≼◌, ◌≺◌, IsFloor, KS, T, P, hermite, short}
 use Rattle.eetf.proofs.FloorLaws.{FloorOfDifference}
 use Rattle.eetf.proofs.SignedLaws.{≈_refl, ≈_sym, ≈_trans, ⊠_cong, ⊞_cong, ⊟_cong, ⊘_cong, ≼-≈, ≈-≺}
 use Rattle.eetf.proofs.SplineLaws.{spline_floor}
