@@ -1,7 +1,7 @@
 -- Both matrices as one: their product has no negative entry, so that no light of BT.2020's primaries is negative, for any three lights. Its entries are in
 -- 1/10^8.
 use mathlib.Core.Path.{◌≡◌, sym, ◌∙◌, ap}
-use Prim.Native.Nat.{ℕ, ◌+◌, ◌-◌, ◌*◌, ◌/◌, ◌^◌, ◌≤◌}
+use Prim.Native.Nat.{ℕ, ◌+◌, ◌-◌, ◌*◌, ◌/◌, ◌≤◌}
 use native.Mathlib.Omega.{arith}
 use lib.IntN.{ℤ, pos, neg_ℤ, nat_abs, ◌+ℤ◌, +ℤ_comm, +ℤ_assoc, +ℤ-neg_ℤ_cancel, neg_ℤ-+ℤ}
 use Rattle.quantity.specs.Component.{Component, red, green, blue, Pixel, pixel}
