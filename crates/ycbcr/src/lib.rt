@@ -2,7 +2,6 @@
 // come from the same codes.
 #![tactic(auto)]
 
-
 // What a row's three samples are: red, green and blue, or luma, Cb and Cr.
 #[derive(Clone, Copy)]
 pub enum SignalFormat {
