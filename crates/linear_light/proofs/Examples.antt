@@ -1,5 +1,5 @@
 -- Values at the borders of their classes, and lights of some, computed.
-use Rattle.std.proofs.Common.{◌≡◌, ◌/◌, true, false, pos, negsuc, refl}
+use Rattle.std.proofs.Common.{◌≡◌, true, false, pos, negsuc, refl}
 use lib.Ieee.{Float, nan, inf, fin, lt}
 use Rattle.quantity.specs.Units.{units, ten_thousand}
 use Rattle.linear_light.specs.declared.LightClass.TheVariants.{Light, Negative, TooBright}

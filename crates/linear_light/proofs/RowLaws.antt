@@ -10,7 +10,7 @@ use Rattle.rows.specs.Answer.{destination_refused, span_refused, pixels_after, h
 use Rattle.rows.proofs.RowLaws.{pixels_same}
 use Rattle.rows.proofs.SpanLaws.{filled}
 use Rattle.rows.proofs.AnswerLaws.{neither, either, refused_not_converted, destination_taken, span_taken, pixels_after_lem}
-use Rattle.linear_light.specs.Conversion.{Values, values}
+use Rattle.linear_light.specs.Conversion.{Values}
 use Rattle.linear_light.specs.Row.{value_at, linear_at, converted_from, linear_into, values_refused, first_not_finite, linear_span_answer}
 
 pub values_taken : (n : ℕ) → values_refused n ≡ false → (n % 3 ≡ 0) × (n ≤ 24576)
