@@ -161,9 +161,11 @@ def check_definitions(crates):
 
 
 def check_paths(crates):
-    names = {path.name for folder in FOLDERS for path in (ROOT / folder).rglob("*")} | {"crates.txt"}
+    names = {path.name for folder in FOLDERS for path in (ROOT / folder).rglob("*") if "out" not in path.parts} | {"crates.txt"}
     sources = "\n".join(path.read_text(encoding="utf-8") for path in sorted(CRATES.glob("*/src/**/*.rt")))
     functions = set(re.findall(r"\bfn (\w+)", sources))
+    stated = "\n".join(path.read_text(encoding="utf-8") for part in ("specs", "proofs") for path in sorted(CRATES.glob(f"*/{part}/**/*.antt")))
+    laws = set(re.findall(r"^ *(?:(?:unfoldable|abbrev|pub) )*([a-z]\w*) :", stated, flags=re.M))
     for document in DOCUMENTS:
         text, where = document.read_text(encoding="utf-8"), document.relative_to(ROOT)
         for crate, part, name, law in cited_parts(text):
@@ -185,7 +187,7 @@ def check_paths(crates):
                 expect(name in names, f"{where} names the file `{name}`, which is not there")
     for name in quoted(read("docs/READING.md")):
         if re.fullmatch(r"[a-z]+(_[a-z]+)+", name):
-            expect(name in functions or name in crates, f"docs/READING.md names the function `{name}`, which no crate has")
+            expect(name in functions | laws or name in crates, f"docs/READING.md names `{name}`, a function, definition or law that no crate has")
 
 
 def numbers(text):

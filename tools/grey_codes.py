@@ -79,12 +79,12 @@ def hints():
     yield "use mathlib.Core.List.{List, [], _∷_}"
     yield "use Prim.Native.Nat.{ℕ}"
     yield ""
-    yield "unfoldable pub sentCodes : List ℕ"
-    yield "sentCodes ="
+    yield "unfoldable pub sent_codes : List ℕ"
+    yield "sent_codes ="
     yield from rows(sent_codes)
     yield ""
-    yield "unfoldable pub returnedCodes : List ℕ"
-    yield "returnedCodes ="
+    yield "unfoldable pub returned_codes : List ℕ"
+    yield "returned_codes ="
     yield from rows(returned_codes)
 
 

@@ -148,7 +148,7 @@ def farthest():
 
 
 def allowed():
-    """The largest spread for which `mean-near` of hlg/proofs/NewtonLaws holds: with x = 5^11 (spread + 5), x^2 is at
+    """The largest spread for which `mean_near` of hlg/proofs/NewtonLaws holds: with x = 5^11 (spread + 5), x^2 is at
     most 2^79 - x times the step's gain, 5 x 2^50 less 4 x 5^11."""
     net = 5 * 2**50 - 4 * 5**11
     low, high = 0, 2**50

@@ -99,15 +99,15 @@ def specs(steps):
     yield "use Prim.Native.Nat.{ℕ, min, _-_}"
     yield "use lib.ListN.{getD}"
     yield ""
-    yield "unfoldable pub stepTable : List ℕ"
-    yield "stepTable ="
+    yield "unfoldable pub step_table : List ℕ"
+    yield "step_table ="
     for i in range(0, len(steps), 8):
         yield "    " + " ".join(f"{s} ∷" for s in steps[i : i + 8])
     yield "    []"
     yield ""
     yield "-- T[d]; below 65 that of 65, above 1,019 that of 1,019"
     yield "unfoldable pub step : ℕ → ℕ"
-    yield f"step d = getD stepTable (min (d - {FIRST}) {len(steps) - 1}) 0"
+    yield f"step d = getD step_table (min (d - {FIRST}) {len(steps) - 1}) 0"
 
 
 def made(form):

@@ -164,11 +164,11 @@ def specs(table):
         "use mathlib.Core.List.{List, [], _∷_}\n"
         "use Prim.Native.Nat.{ℕ, min}\n"
         "use lib.ListN.{getD}\n\n"
-        "unfoldable pub lightTable : List ℕ\n"
-        "lightTable =\n" + rows(table, 10) + "\n"
+        "unfoldable pub light_table : List ℕ\n"
+        "light_table =\n" + rows(table, 10) + "\n"
         "-- P[k]; past the table its last entry\n"
-        "unfoldable pub lightEntry : ℕ → ℕ\n"
-        "lightEntry k = getD lightTable (min k 3504) 0\n"
+        "unfoldable pub light_entry : ℕ → ℕ\n"
+        "light_entry k = getD light_table (min k 3504) 0\n"
     )
 
 

@@ -89,15 +89,15 @@ def specs(lights):
     yield "use Prim.Native.Nat.{ℕ, min, _-_}"
     yield "use lib.ListN.{getD}"
     yield ""
-    yield "unfoldable pub sceneTable : List ℕ"
-    yield "sceneTable ="
+    yield "unfoldable pub scene_table : List ℕ"
+    yield "scene_table ="
     for i in range(0, len(lights), 8):
         yield "    " + " ".join(f"{s} ∷" for s in lights[i : i + 8])
     yield "    []"
     yield ""
     yield "-- the scene light of code d; below 64 that of 64, above 1,019 that of 1,019"
-    yield "unfoldable pub sceneLight : ℕ → ℕ"
-    yield f"sceneLight d = getD sceneTable (min (d - {BLACK}) {len(lights) - 1}) 0"
+    yield "unfoldable pub scene_light : ℕ → ℕ"
+    yield f"scene_light d = getD scene_table (min (d - {BLACK}) {len(lights) - 1}) 0"
 
 
 def made(form):

@@ -42,11 +42,11 @@ def table(path):
 N = numbers()
 # the numbers of full range under the names of those that take their place
 FULL = {name: N["full" + name[0].upper() + name[1:]] for name in (
-    "resultAbove", "resultBelow", "luminanceBelow", "luminanceAbove", "slopeAbove", "slopeBelow", "roomAbove", "roomBelow", "ratioUnder", "ratioOver")}
-FULL["leastLuminance"] = N["litLuminance"]
+    "result_above", "result_below", "luminance_below", "luminance_above", "slope_above", "slope_below", "room_above", "room_below", "ratio_under", "ratio_over")}
+FULL["least_luminance"] = N["lit_luminance"]
 # those of lights that are given themselves, whose whole parts enclose them
-WHOLE = {**N, "resultAbove": 1, "resultBelow": 0, "luminanceBelow": 0, "luminanceAbove": WEIGHTS, "slopeAbove": N["unitSlope"], "slopeBelow": N["unitSlope"],
-         "leastLuminance": N["litUnitsLuminance"]}
+WHOLE = {**N, "result_above": 1, "result_below": 0, "luminance_below": 0, "luminance_above": WEIGHTS, "slope_above": N["unit_slope"], "slope_below": N["unit_slope"],
+         "least_luminance": N["lit_units_luminance"]}
 LIGHTS = table("crates/pq/specs/LightTable.antt")
 STEPS = table("crates/hlg_steps/specs/StepTable.antt")
 
@@ -91,37 +91,37 @@ def most(holds, low, high=10**9):
 
 def add_high(base=N, **other):
     n = {**base, **other}
-    s, g, v, u = n["resultAbove"], n["luminanceBelow"], n["slopeAbove"], n["roomAbove"]
+    s, g, v, u = n["result_above"], n["luminance_below"], n["slope_above"], n["room_above"]
 
     def one(t):
-        f = max(BLUE * t, v * n["leastLuminance"])
+        f = max(BLUE * t, v * n["least_luminance"])
         return g * v < f and (t + s * v) ** 6 * f <= (t + u) ** 6 * (f - g * v)
     return s * v <= u and all(map(one, STEPS))
 
 
 def add_low(base=N, **other):
     n = {**base, **other}
-    s, h, v, l = n["resultBelow"], n["luminanceAbove"], n["slopeBelow"], n["roomBelow"]
+    s, h, v, l = n["result_below"], n["luminance_above"], n["slope_below"], n["room_below"]
 
     def one(t):
-        f = max(BLUE * t, v * n["leastLuminance"])
+        f = max(BLUE * t, v * n["least_luminance"])
         return max(t - l, 0) ** 6 * (f + h * v) <= max(t - s * v, 0) ** 6 * f
     return all(map(one, STEPS))
 
 
 def slope_above(base=N, **other):
     n = {**base, **other}
-    return C <= n["slopeAbove"] ** 6 * K * max(n["leastLuminance"] - n["luminanceBelow"], 0)
+    return C <= n["slope_above"] ** 6 * K * max(n["least_luminance"] - n["luminance_below"], 0)
 
 
 def slope_below(base=N, **other):
     n = {**base, **other}
-    return C <= n["slopeBelow"] ** 6 * K * n["leastLuminance"]
+    return C <= n["slope_below"] ** 6 * K * n["least_luminance"]
 
 
 def between_steps(p, q, base=N, **other):
     n = {**base, **other}
-    u, l = n["roomAbove"], n["roomBelow"]
+    u, l = n["room_above"], n["room_below"]
     return all(q**7 * (x + u) ** 6 <= p**7 * (y - 1) ** 6 and q**7 * x**6 <= p**7 * max(y - l, 0) ** 6 for x, y in zip(STEPS, STEPS[1:]))
 
 
@@ -141,7 +141,7 @@ SIXTEENTHS = sixteenths(7), sixteenths(9)
 def farthest(t, **other):
     """As far below and above a step as a few units take a component, and then as the ratio does."""
     n = {**N, **other}
-    down, up, part = max(t - n["roomBelow"], 0), t + n["roomAbove"], n["ratioPart"]
+    down, up, part = max(t - n["room_below"], 0), t + n["room_above"], n["ratio_part"]
     return down - (down // part + 1), up + (up // part + 1)
 
 
@@ -164,19 +164,19 @@ def slow_over(p, way, widths, cells):
 def slow(cells=None, **other):
     """The way from a bent position to a point."""
     n = {**N, **other}
-    cells = range(n["firstCell"], n["firstCell"] + n["cells"]) if cells is None else cells
-    return slow_over(n["ratioUnder"], n["positionsOff"] + n["pointsApart"], 1, cells)
+    cells = range(n["first_cell"], n["first_cell"] + n["cells"]) if cells is None else cells
+    return slow_over(n["ratio_under"], n["positions_off"] + n["points_apart"], 1, cells)
 
 
 def linear_slow(**other):
     """The way that X's fractions add to it where lights are given themselves."""
     n = {**N, **other}
-    return slow_over(n["fullRatioUnder"], n["linearReach"], 2, range(n["firstPointCell"], n["lastPointCell"] + 1))
+    return slow_over(n["full_ratio_under"], n["linear_reach"], 2, range(n["first_point_cell"], n["last_point_cell"] + 1))
 
 
 def points_hold(k):
     """Whether the light at each point of a cell lies between the formula's at the position before and at the one after."""
-    apart = N["pointsApart"]
+    apart = N["points_apart"]
     return all(formula(q - 1) <= light_at(q) <= formula(q + 1) for q in range(-(-CELL * k // apart) * apart, CELL * (k + 1), apart))
 
 
@@ -196,7 +196,7 @@ def bent():
     for peak in range(1001, 10001):
         w = position_of(peak * UNITS)
         low, high = 27 * (w - T - 2) ** 2, 27 * (w - T + 2) ** 2
-        first = (3 * T - N["kneeHalves"] - w) // 2 + 1
+        first = (3 * T - N["knee_halves"] - w) // 2 + 1
         at = min(first, w)
         lowest = min(lowest, at if 2 * at + w < 3 * T else spline(T, w, at))
         for m in range(-(-first // 1024) * 1024, min(w, 897024) + 1024, 1024):
@@ -218,15 +218,15 @@ def full_lights():
 
 def encloses(lights, **other):
     n = {**N, **other}
-    part, below, above = n["lightPart"], n["unitsBelow"], n["unitsAbove"]
+    part, below, above = n["light_part"], n["units_below"], n["units_above"]
     return part > 0 and all(l - l // part - below <= low and high <= l + l // part + above for l, low, high in lights)
 
 
 def units_fit(**other):
-    """`sum-up` and `sum-lo` of FullRangeNear: the units off lights take 43/2 of the weights above, and 25 below."""
+    """`sum_up` and `sum_lo` of FullRangeNear: the units off lights take 43/2 of the weights above, and 25 below."""
     n = {**N, **other}
-    off, above = n["unitsBelow"] + 1, n["unitsAbove"]
-    k = n["litLight"] - off
+    off, above = n["units_below"] + 1, n["units_above"]
+    k = n["lit_light"] - off
     return 2 * ((off + 1 + 2 * above) * k + off**2 + off - 1 + 2 * off * above + above**2) <= 43 * k and 2 * off + above <= 25
 
 
@@ -237,41 +237,41 @@ def ratios_fit(p, part):
 
 def dim_fits(ratio, first):
     """A light of a dim pixel lies within the ratio of its ends, the first most of all; and narrow range's slope serves."""
-    below, above = N["unitsBelow"], N["unitsAbove"]
-    return first > below and slope_above(leastLuminance=BLUE * first, luminanceBelow=0) and all(
+    below, above = N["units_below"], N["units_above"]
+    return first > below and slope_above(least_luminance=BLUE * first, luminance_below=0) and all(
         (first + above) * (m + above) <= ratio * (m - below) * first and first * (m + above) <= ratio * (first - below) * (m - below)
-        for m in range(first, N["dimLight"] + 1))
+        for m in range(first, N["dim_light"] + 1))
 
 
 def full_rows():
     lights = full_lights()
     first, third, fourth = (light_at(LAST * n // 4095) for n in (1, 3, 4))
-    p, part = FULL["ratioUnder"], N["lightPart"]
-    yield ("lightPart", least(lambda n: ratios_fit(p, n), 10**6), min(most(lambda n: encloses(lights, lightPart=n), 1), N["ratioUnder"]),
+    p, part = FULL["ratio_under"], N["light_part"]
+    yield ("light_part", least(lambda n: ratios_fit(p, n), 10**6), min(most(lambda n: encloses(lights, light_part=n), 1), N["ratio_under"]),
            "ratio of full range; codes, the curve's ratio")
-    yield "unitsBelow", least(lambda n: encloses(lights, unitsBelow=n), 100), most(lambda n: units_fit(unitsBelow=n), 0), "codes; units off a result"
-    yield "unitsAbove", least(lambda n: encloses(lights, unitsAbove=n), 100), most(lambda n: units_fit(unitsAbove=n), 0), "codes; units off a result"
-    yield "firstLight", least(lambda n: dim_fits(N["dimRatio"], n), 100), first, "ratio and slope of dim lights; first code of twelve bits"
-    yield "dimLight", third, most(lambda n: C * n**5 < STEPS[1] ** 6 * K * BLUE, 0), "third code; step of code 66"
-    yield "litLight", least(lambda n: n > 10 and units_fit(litLight=n), 10**6), fourth, "units off a result; fourth code"
-    yield ("litLuminance", least(lambda y: slope_above(FULL, leastLuminance=y) and slope_below(FULL, leastLuminance=y), 10**6), BLUE * fourth,
+    yield "units_below", least(lambda n: encloses(lights, units_below=n), 100), most(lambda n: units_fit(units_below=n), 0), "codes; units off a result"
+    yield "units_above", least(lambda n: encloses(lights, units_above=n), 100), most(lambda n: units_fit(units_above=n), 0), "codes; units off a result"
+    yield "first_light", least(lambda n: dim_fits(N["dim_ratio"], n), 100), first, "ratio and slope of dim lights; first code of twelve bits"
+    yield "dim_light", third, most(lambda n: C * n**5 < STEPS[1] ** 6 * K * BLUE, 0), "third code; step of code 66"
+    yield "lit_light", least(lambda n: n > 10 and units_fit(lit_light=n), 10**6), fourth, "units off a result; fourth code"
+    yield ("lit_luminance", least(lambda y: slope_above(FULL, least_luminance=y) and slope_below(FULL, least_luminance=y), 10**6), BLUE * fourth,
            "slopes; fourth code")
-    yield "fullResultAbove", 22, most(lambda s: add_high(FULL, resultAbove=s), 0), "`sum-up`, 43/2; room above"
-    yield "fullResultBelow", 25, most(lambda s: add_low(FULL, resultBelow=s), 0), "`sum-lo`; room below"
-    yield ("fullLuminanceBelow", 25 * WEIGHTS, most(lambda g: add_high(FULL, luminanceBelow=g) and slope_above(FULL, luminanceBelow=g), 0),
-           "`sum-lo`; slope, room above")
-    yield "fullLuminanceAbove", 43 * WEIGHTS // 2, most(lambda h: add_low(FULL, luminanceAbove=h), 0), "`sum-up`; room below"
-    yield ("fullSlopeAbove", least(lambda v: slope_above(FULL, slopeAbove=v), 10**6), most(lambda v: add_high(FULL, slopeAbove=v), 0),
+    yield "full_result_above", 22, most(lambda s: add_high(FULL, result_above=s), 0), "`sum_up`, 43/2; room above"
+    yield "full_result_below", 25, most(lambda s: add_low(FULL, result_below=s), 0), "`sum_lo`; room below"
+    yield ("full_luminance_below", 25 * WEIGHTS, most(lambda g: add_high(FULL, luminance_below=g) and slope_above(FULL, luminance_below=g), 0),
+           "`sum_lo`; slope, room above")
+    yield "full_luminance_above", 43 * WEIGHTS // 2, most(lambda h: add_low(FULL, luminance_above=h), 0), "`sum_up`; room below"
+    yield ("full_slope_above", least(lambda v: slope_above(FULL, slope_above=v), 10**6), most(lambda v: add_high(FULL, slope_above=v), 0),
            "least luminance; room above")
-    yield ("fullSlopeBelow", least(lambda v: slope_below(FULL, slopeBelow=v), 10**6), most(lambda v: add_low(FULL, slopeBelow=v), 0),
+    yield ("full_slope_below", least(lambda v: slope_below(FULL, slope_below=v), 10**6), most(lambda v: add_low(FULL, slope_below=v), 0),
            "least luminance; room below")
-    up, down = (most(lambda n: between_steps(p, p + 1, FULL, **{name: n}), 0) for name in ("roomAbove", "roomBelow"))
-    yield "fullRoomAbove", least(lambda u: add_high(FULL, roomAbove=u), 10**6), up, "units off; ratio"
-    yield "fullRoomBelow", least(lambda l: add_low(FULL, roomBelow=l), 10**6), down, "units off; ratio"
-    yield ("fullRatioUnder", least(lambda n: n > 0 and between_steps(n, n + 1, FULL), 10**6),
-           min(most(lambda n: ratios_fit(n, part), 1), most(lambda n: linear_slow(fullRatioUnder=n), 1)), "steps; parts of lights, cells of bent light")
-    yield "fullRatioOver", p + 1, p + 1, "one more"
-    yield ("dimRatio", least(lambda n: dim_fits(n, N["firstLight"]), 100),
+    up, down = (most(lambda n: between_steps(p, p + 1, FULL, **{name: n}), 0) for name in ("room_above", "room_below"))
+    yield "full_room_above", least(lambda u: add_high(FULL, room_above=u), 10**6), up, "units off; ratio"
+    yield "full_room_below", least(lambda l: add_low(FULL, room_below=l), 10**6), down, "units off; ratio"
+    yield ("full_ratio_under", least(lambda n: n > 0 and between_steps(n, n + 1, FULL), 10**6),
+           min(most(lambda n: ratios_fit(n, part), 1), most(lambda n: linear_slow(full_ratio_under=n), 1)), "steps; parts of lights, cells of bent light")
+    yield "full_ratio_over", p + 1, p + 1, "one more"
+    yield ("dim_ratio", least(lambda n: dim_fits(n, N["first_light"]), 100),
            most(lambda n: all(n**7 * x**6 <= (y - 1) ** 6 for x, y in zip(STEPS, STEPS[1:3])), 0), "ends of dim lights; first steps")
 
 
@@ -279,48 +279,48 @@ def full_rows():
 
 def linear_rows():
     """Whole parts of lights, fewer of them than serve by their units, and X's fractions a cell off."""
-    slopes = lambda y: slope_above(WHOLE, leastLuminance=y) and slope_below(WHOLE, leastLuminance=y) and add_low(WHOLE, leastLuminance=y)
-    dim = lambda n: C * (n - 1) ** 5 < STEPS[0] ** 6 * K * BLUE and C * n**5 <= N["dimScene"] ** 6 * K * BLUE
-    reach = N["positionsOff"] + N["pointsApart"]
-    yield "litUnits", least(lambda n: slopes(BLUE * n), 10**4), most(dim, 1), "slope; first step, scene light"
-    yield "litUnitsLuminance", least(slopes, 10**6), BLUE * N["litUnits"], "slope; units"
-    yield ("unitSlope", least(lambda v: slope_above(WHOLE, slopeAbove=v), 10**6),
-           min(most(lambda v: add_high(WHOLE, slopeAbove=v), 0), most(lambda v: add_low(WHOLE, slopeBelow=v), 0)), "least luminance; rooms")
-    yield ("dimScene", least(lambda e: C * N["litUnits"] ** 5 <= e**6 * K * BLUE, 10**6), int(scene_light(Decimal(8) / 14016)), "units; 8/16")
-    yield ("leastUnleft", max(CELL * (N["firstPointCell"] + 1) + reach, CELL * N["steepCell"]), (3 * T - 2048 - LAST) // 2 + 1,
+    slopes = lambda y: slope_above(WHOLE, least_luminance=y) and slope_below(WHOLE, least_luminance=y) and add_low(WHOLE, least_luminance=y)
+    dim = lambda n: C * (n - 1) ** 5 < STEPS[0] ** 6 * K * BLUE and C * n**5 <= N["dim_scene"] ** 6 * K * BLUE
+    reach = N["positions_off"] + N["points_apart"]
+    yield "lit_units", least(lambda n: slopes(BLUE * n), 10**4), most(dim, 1), "slope; first step, scene light"
+    yield "lit_units_luminance", least(slopes, 10**6), BLUE * N["lit_units"], "slope; units"
+    yield ("unit_slope", least(lambda v: slope_above(WHOLE, slope_above=v), 10**6),
+           min(most(lambda v: add_high(WHOLE, slope_above=v), 0), most(lambda v: add_low(WHOLE, slope_below=v), 0)), "least luminance; rooms")
+    yield ("dim_scene", least(lambda e: C * N["lit_units"] ** 5 <= e**6 * K * BLUE, 10**6), int(scene_light(Decimal(8) / 14016)), "units; 8/16")
+    yield ("least_unleft", max(CELL * (N["first_point_cell"] + 1) + reach, CELL * N["steep_cell"]), (3 * T - 2048 - LAST) // 2 + 1,
            "points, steep cells; a code below the knee")
-    yield ("steepCell", least(lambda k: all(high - low >= CELL for low, high in zip(LIGHTS[k:], LIGHTS[k + 1:])), len(LIGHTS)), N["leastUnleft"] // CELL,
+    yield ("steep_cell", least(lambda k: all(high - low >= CELL for low, high in zip(LIGHTS[k:], LIGHTS[k + 1:])), len(LIGHTS)), N["least_unleft"] // CELL,
            "a unit a position; the least position not left")
-    yield "linearReach", reach + CELL + 1, most(lambda n: linear_slow(linearReach=n), 0, 2 * CELL + 1), "a cell and a position; cells of bent light"
+    yield "linear_reach", reach + CELL + 1, most(lambda n: linear_slow(linear_reach=n), 0, 2 * CELL + 1), "a cell and a position; cells of bent light"
 
 
 def rows():
     """name, the least that would do, the most, and where they come from"""
     off, lowest = bent()
-    part, reach = N["ratioPart"], N["positionsOff"] + N["pointsApart"]
-    yield "leastLight", LIGHTS[1], LIGHTS[1], "entry 1"
-    yield "leastLuminance", least(lambda y: slope_above(leastLuminance=y) and slope_below(leastLuminance=y), 10**6), BLUE * LIGHTS[1], "slopes; entry 1"
-    yield "resultAbove", 3, most(lambda s: add_high(resultAbove=s), 0), "`sum-up`; room above"
-    yield "resultBelow", 2, most(lambda s: add_low(resultBelow=s), 0), "`sum-lo`, 3/2; room below"
-    yield "luminanceBelow", 3 * WEIGHTS // 2, most(lambda g: add_high(luminanceBelow=g) and slope_above(luminanceBelow=g), 0), "`sum-lo`; slope, room above"
-    yield "luminanceAbove", 3 * WEIGHTS, most(lambda h: add_low(luminanceAbove=h), 0), "`sum-up`; room below"
-    yield "slopeAbove", least(lambda v: slope_above(slopeAbove=v), 10**6), most(lambda v: add_high(slopeAbove=v), 0), "least luminance; room above"
-    yield "slopeBelow", least(lambda v: slope_below(slopeBelow=v), 10**6), most(lambda v: add_low(slopeBelow=v), 0), "least luminance; room below"
-    yield "roomAbove", least(lambda u: add_high(roomAbove=u) and add_high(WHOLE, roomAbove=u), 10**6), most(lambda u: nine(roomAbove=u), 0), "units off; 9/16"
-    yield "roomBelow", least(lambda l: add_low(roomBelow=l) and add_low(WHOLE, roomBelow=l), 10**6), most(lambda l: nine(roomBelow=l), 0), "units off; 7/16"
-    yield "ratioUnder", least(lambda n: n > 0 and part_fits(n, part), 10**6), most(lambda n: slow(ratioUnder=n), 1), "its part; cells of bent light"
-    yield "ratioOver", N["ratioUnder"] + 1, N["ratioUnder"] + 1, "one more"
-    yield "ratioPart", least(lambda n: n > 0 and nine(ratioPart=n), 10**6), most(lambda n: part_fits(N["ratioUnder"], n), 1), "9/16; the ratio"
-    yield "positionsOff", off, most(lambda n: slow(positionsOff=n), 0, 1000), "narrow codes under every peak; cells of bent light"
-    yield "kneeHalves", 5, 5, "J high and H high; `curve-place`"
-    yield "leastBent", CELL * N["firstCell"] + reach, lowest, "first cell; lowest bent position"
-    yield "firstCell", least(lambda k: slow(range(k, 2300)), 2300), (N["leastBent"] - reach) // CELL, "ratio; lowest bent position"
-    yield "cells", T // CELL - N["firstCell"] + 1, most(lambda n: slow(cells=range(N["firstCell"], N["firstCell"] + n)), 1, 1305), "1,000 cd/m2; ratio"
-    yield "thousandAt", T, T, "the position of 1,000 cd/m2"
-    yield "pointsApart", 1, most(lambda n: slow(pointsApart=n), 1, 1000), "cells of bent light"
-    yield ("firstPointCell", least(points_hold, N["firstPointCell"]), (N["leastUnleft"] - CELL - reach) // CELL,
+    part, reach = N["ratio_part"], N["positions_off"] + N["points_apart"]
+    yield "least_light", LIGHTS[1], LIGHTS[1], "entry 1"
+    yield "least_luminance", least(lambda y: slope_above(least_luminance=y) and slope_below(least_luminance=y), 10**6), BLUE * LIGHTS[1], "slopes; entry 1"
+    yield "result_above", 3, most(lambda s: add_high(result_above=s), 0), "`sum_up`; room above"
+    yield "result_below", 2, most(lambda s: add_low(result_below=s), 0), "`sum_lo`, 3/2; room below"
+    yield "luminance_below", 3 * WEIGHTS // 2, most(lambda g: add_high(luminance_below=g) and slope_above(luminance_below=g), 0), "`sum_lo`; slope, room above"
+    yield "luminance_above", 3 * WEIGHTS, most(lambda h: add_low(luminance_above=h), 0), "`sum_up`; room below"
+    yield "slope_above", least(lambda v: slope_above(slope_above=v), 10**6), most(lambda v: add_high(slope_above=v), 0), "least luminance; room above"
+    yield "slope_below", least(lambda v: slope_below(slope_below=v), 10**6), most(lambda v: add_low(slope_below=v), 0), "least luminance; room below"
+    yield "room_above", least(lambda u: add_high(room_above=u) and add_high(WHOLE, room_above=u), 10**6), most(lambda u: nine(room_above=u), 0), "units off; 9/16"
+    yield "room_below", least(lambda l: add_low(room_below=l) and add_low(WHOLE, room_below=l), 10**6), most(lambda l: nine(room_below=l), 0), "units off; 7/16"
+    yield "ratio_under", least(lambda n: n > 0 and part_fits(n, part), 10**6), most(lambda n: slow(ratio_under=n), 1), "its part; cells of bent light"
+    yield "ratio_over", N["ratio_under"] + 1, N["ratio_under"] + 1, "one more"
+    yield "ratio_part", least(lambda n: n > 0 and nine(ratio_part=n), 10**6), most(lambda n: part_fits(N["ratio_under"], n), 1), "9/16; the ratio"
+    yield "positions_off", off, most(lambda n: slow(positions_off=n), 0, 1000), "narrow codes under every peak; cells of bent light"
+    yield "knee_halves", 5, 5, "J high and H high; `curve_place`"
+    yield "least_bent", CELL * N["first_cell"] + reach, lowest, "first cell; lowest bent position"
+    yield "first_cell", least(lambda k: slow(range(k, 2300)), 2300), (N["least_bent"] - reach) // CELL, "ratio; lowest bent position"
+    yield "cells", T // CELL - N["first_cell"] + 1, most(lambda n: slow(cells=range(N["first_cell"], N["first_cell"] + n)), 1, 1305), "1,000 cd/m2; ratio"
+    yield "thousand_at", T, T, "the position of 1,000 cd/m2"
+    yield "points_apart", 1, most(lambda n: slow(points_apart=n), 1, 1000), "cells of bent light"
+    yield ("first_point_cell", least(points_hold, N["first_point_cell"]), (N["least_unleft"] - CELL - reach) // CELL,
            "formula; a cell below the least position of a light that is not left")
-    yield "lastPointCell", (T + reach) // CELL, most(points_hold, N["lastPointCell"], len(LIGHTS) - 1), "1,000 cd/m2; formula"
+    yield "last_point_cell", (T + reach) // CELL, most(points_hold, N["last_point_cell"], len(LIGHTS) - 1), "1,000 cd/m2; formula"
     yield from full_rows()
     yield from linear_rows()
 

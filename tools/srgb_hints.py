@@ -23,7 +23,7 @@ from srgb_lights import TO_XYZ, WHITE, light
 SOURCE = ROOT / "crates/srgb_hlg/src/hint_table.rt"
 BITS = 64
 OCTAVES = range(16, 39)  # those of lights from below the first step to white's
-BRIGHTEST = 291391195829  # the red scene light of white, `PixelLaws.scene-le`
+BRIGHTEST = 291391195829  # the red scene light of white, `PixelLaws.scene_le`
 ENTRIES = 1298  # the length that the code names
 NONE = 1000  # more steps than there are
 FROM_XYZ = ((17167, -3557, -2534), (-6667, 16165, 158), (176, -428, 9421))  # in ten-thousandths

@@ -56,15 +56,15 @@ def specs(lights):
     yield "use Prim.Native.Nat.{ℕ, min}"
     yield "use lib.ListN.{getD}"
     yield ""
-    yield "unfoldable pub linearTable : List ℕ"
-    yield "linearTable ="
+    yield "unfoldable pub linear_table : List ℕ"
+    yield "linear_table ="
     for i in range(0, len(lights), 8):
         yield "    " + " ".join(f"{s} ∷" for s in lights[i : i + 8])
     yield "    []"
     yield ""
     yield "-- the light of value v; above 255 that of 255"
-    yield "unfoldable pub linearLight : ℕ → ℕ"
-    yield f"linearLight v = getD linearTable (min v {WHITE}) 0"
+    yield "unfoldable pub linear_light : ℕ → ℕ"
+    yield f"linear_light v = getD linear_table (min v {WHITE}) 0"
 
 
 def greys(lights):
@@ -76,8 +76,8 @@ def greys(lights):
     yield "use mathlib.Core.List.{List, [], _∷_}"
     yield "use Prim.Native.Nat.{ℕ}"
     yield ""
-    yield "unfoldable pub blueCodes : List ℕ"
-    yield "blueCodes ="
+    yield "unfoldable pub blue_codes : List ℕ"
+    yield "blue_codes ="
     for i in range(0, len(codes), 24):
         yield "    " + " ".join(f"{d} ∷" for d in codes[i : i + 24])
     yield "    []"

@@ -33,13 +33,13 @@ def specs(thresholds):
     yield "-- The thresholds of the PQ codes (request 08): the light from which a rounded code is D or more, for each D from 65 to 940, in units."
     yield (
         f"-- {len(thresholds)} entries from {grouped(thresholds[0])} to {grouped(thresholds[-1])}, rising. "
-        "Made by `python3 tools/thresholds.py specs`; `Code.thresholdLight` is the rule."
+        "Made by `python3 tools/thresholds.py specs`; `Code.threshold_light` is the rule."
     )
     yield "use mathlib.Core.List.{List, [], _∷_}"
     yield "use Prim.Native.Nat.{ℕ}"
     yield ""
-    yield "unfoldable pub thresholdTable : List ℕ"
-    yield "thresholdTable ="
+    yield "unfoldable pub threshold_table : List ℕ"
+    yield "threshold_table ="
     for i in range(0, len(thresholds), 8):
         yield "    " + " ".join(f"{light} ∷" for light in thresholds[i : i + 8])
     yield "    []"
