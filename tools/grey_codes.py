@@ -76,7 +76,7 @@ def hints():
     print(f"{len(far)} greys: {counts}", file=sys.stderr)
     yield "-- For each grey of an HLG code from 64 to 940, in order, its PQ code, and the HLG code that comes back under a peak of 1,000 cd/m2. Made by"
     yield "-- `python3 tools/grey_codes.py hints`; nothing is believed of them: `RoundTripTests` tests each."
-    yield "use mathlib.Core.List.{List, [], _∷_}"
+    yield "use mathlib.Core.List.{List, [], ◌∷◌}"
     yield "use Prim.Native.Nat.{ℕ}"
     yield ""
     yield "unfoldable pub sent_codes : List ℕ"

@@ -95,9 +95,7 @@ def specs(steps):
         f"-- {len(steps)} entries from {grouped(steps[0])} to {grouped(steps[-1])}, rising. "
         "Made by `python3 tools/hlg_steps.py specs`; `Steps.IsStep` is the rule."
     )
-    yield "use mathlib.Core.List.{List, [], _∷_}"
-    yield "use Prim.Native.Nat.{ℕ, min, _-_}"
-    yield "use lib.ListN.{getD}"
+    yield "use Rattle.std.specs.Prelude.{List, [], ◌∷◌, ℕ, min, ◌-◌, get_or}"
     yield ""
     yield "unfoldable pub step_table : List ℕ"
     yield "step_table ="
@@ -107,7 +105,7 @@ def specs(steps):
     yield ""
     yield "-- T[d]; below 65 that of 65, above 1,019 that of 1,019"
     yield "unfoldable pub step : ℕ → ℕ"
-    yield f"step d = getD step_table (min (d - {FIRST}) {len(steps) - 1}) 0"
+    yield f"step d = get_or step_table (min (d - {FIRST}) {len(steps) - 1}) 0"
 
 
 def made(form):

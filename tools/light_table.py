@@ -161,14 +161,12 @@ def specs(table):
     return (
         "-- The light table P (scope, Light: light table; request 05): entry k is the light of the PQ signal k/3504 to the nearest 1/16,777,216 cd/m2.\n"
         "-- 3,505 entries from 0 to 167,772,160,000, rising. Made by `python3 tools/light_table.py specs`; `Pq.IsEntry` is the rule.\n"
-        "use mathlib.Core.List.{List, [], _∷_}\n"
-        "use Prim.Native.Nat.{ℕ, min}\n"
-        "use lib.ListN.{getD}\n\n"
+        "use Rattle.std.specs.Prelude.{List, [], ◌∷◌, ℕ, min, get_or}\n\n"
         "unfoldable pub light_table : List ℕ\n"
         "light_table =\n" + rows(table, 10) + "\n"
         "-- P[k]; past the table its last entry\n"
         "unfoldable pub light_entry : ℕ → ℕ\n"
-        "light_entry k = getD light_table (min k 3504) 0\n"
+        "light_entry k = get_or light_table (min k 3504) 0\n"
     )
 
 
@@ -176,8 +174,8 @@ def hints(table):
     found = [entry_hint(k, table[k]) for k in range(1, LAST + 1)]
     return (
         "-- What the test of each entry of the light table from 1 on is given. Made by `python3 tools/light_table.py hints`; nothing is believed of it.\n"
-        "use mathlib.Core.List.{List, [], _∷_}\n"
-        "use Rattle·pq·proofs.proofs.PqTests.{Hint, hint}\n\n"
+        "use mathlib.Core.List.{List, [], ◌∷◌}\n"
+        "use Rattle.pq.proofs.PqTests.{Hint, hint}\n\n"
         "unfoldable pub hints : List Hint\n"
         "hints =\n" + rows([f"hint {a} {b} {j}" for a, b, j in found], 3)
     )

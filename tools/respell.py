@@ -74,7 +74,9 @@ class File:
 def declared(files, fields=None):
     """The names that the repository's own antt files declare: at the head of a signature, of a field or of a constructor. Fields go into `fields` too."""
     names = set()
-    head = re.compile(r"^\s*(?:(?:pattern|unfoldable|abbrev|pub|private|instance|axiom|data|record|module)\s+)*((?:[^\s:(){}.;,@\"]+\s+)*?[^\s:(){}.;,@\"]+)\s*(?:\{[^}]*\}\s*)?:(?:\s|$)")
+    marks = r"(?:(?:pattern|unfoldable|abbrev|pub|private|instance|axiom|data|record|module)\s+)*"
+    word = r"[^\s:(){}.;,@\"]+"
+    head = re.compile(rf"^\s*{marks}((?:{word}\s+)*?{word})\s*(?:\{{[^}}]*\}}\s*)?:(?:\s|$)")
     for f in files:
         if f.path.endswith(".antt"):
             record = False

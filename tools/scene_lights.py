@@ -85,9 +85,7 @@ def specs(lights):
         f"-- {len(lights)} entries from {grouped(lights[0])} to {grouped(lights[-1])}, rising. "
         "Made by `python3 tools/scene_lights.py specs`; `SceneLight.IsSceneLight` is the rule."
     )
-    yield "use mathlib.Core.List.{List, [], _∷_}"
-    yield "use Prim.Native.Nat.{ℕ, min, _-_}"
-    yield "use lib.ListN.{getD}"
+    yield "use Rattle.std.specs.Prelude.{List, [], ◌∷◌, ℕ, min, ◌-◌, get_or}"
     yield ""
     yield "unfoldable pub scene_table : List ℕ"
     yield "scene_table ="
@@ -97,7 +95,7 @@ def specs(lights):
     yield ""
     yield "-- the scene light of code d; below 64 that of 64, above 1,019 that of 1,019"
     yield "unfoldable pub scene_light : ℕ → ℕ"
-    yield f"scene_light d = getD scene_table (min (d - {BLACK}) {len(lights) - 1}) 0"
+    yield f"scene_light d = get_or scene_table (min (d - {BLACK}) {len(lights) - 1}) 0"
 
 
 def made(form):

@@ -41,12 +41,13 @@ def table(path):
 
 N = numbers()
 # the numbers of full range under the names of those that take their place
-FULL = {name: N["full" + name[0].upper() + name[1:]] for name in (
-    "result_above", "result_below", "luminance_below", "luminance_above", "slope_above", "slope_below", "room_above", "room_below", "ratio_under", "ratio_over")}
+FULL = {name: N["full_" + name] for name in (
+    "result_above", "result_below", "luminance_below", "luminance_above", "slope_above", "slope_below", "room_above", "room_below", "ratio_under",
+    "ratio_over")}
 FULL["least_luminance"] = N["lit_luminance"]
 # those of lights that are given themselves, whose whole parts enclose them
-WHOLE = {**N, "result_above": 1, "result_below": 0, "luminance_below": 0, "luminance_above": WEIGHTS, "slope_above": N["unit_slope"], "slope_below": N["unit_slope"],
-         "least_luminance": N["lit_units_luminance"]}
+WHOLE = {**N, "result_above": 1, "result_below": 0, "luminance_below": 0, "luminance_above": WEIGHTS, "slope_above": N["unit_slope"],
+         "slope_below": N["unit_slope"], "least_luminance": N["lit_units_luminance"]}
 LIGHTS = table("crates/pq/specs/LightTable.antt")
 STEPS = table("crates/hlg_steps/specs/StepTable.antt")
 
@@ -302,11 +303,13 @@ def rows():
     yield "least_luminance", least(lambda y: slope_above(least_luminance=y) and slope_below(least_luminance=y), 10**6), BLUE * LIGHTS[1], "slopes; entry 1"
     yield "result_above", 3, most(lambda s: add_high(result_above=s), 0), "`sum_up`; room above"
     yield "result_below", 2, most(lambda s: add_low(result_below=s), 0), "`sum_lo`, 3/2; room below"
-    yield "luminance_below", 3 * WEIGHTS // 2, most(lambda g: add_high(luminance_below=g) and slope_above(luminance_below=g), 0), "`sum_lo`; slope, room above"
+    yield ("luminance_below", 3 * WEIGHTS // 2, most(lambda g: add_high(luminance_below=g) and slope_above(luminance_below=g), 0),
+           "`sum_lo`; slope, room above")
     yield "luminance_above", 3 * WEIGHTS, most(lambda h: add_low(luminance_above=h), 0), "`sum_up`; room below"
     yield "slope_above", least(lambda v: slope_above(slope_above=v), 10**6), most(lambda v: add_high(slope_above=v), 0), "least luminance; room above"
     yield "slope_below", least(lambda v: slope_below(slope_below=v), 10**6), most(lambda v: add_low(slope_below=v), 0), "least luminance; room below"
-    yield "room_above", least(lambda u: add_high(room_above=u) and add_high(WHOLE, room_above=u), 10**6), most(lambda u: nine(room_above=u), 0), "units off; 9/16"
+    yield ("room_above", least(lambda u: add_high(room_above=u) and add_high(WHOLE, room_above=u), 10**6), most(lambda u: nine(room_above=u), 0),
+           "units off; 9/16")
     yield "room_below", least(lambda l: add_low(room_below=l) and add_low(WHOLE, room_below=l), 10**6), most(lambda l: nine(room_below=l), 0), "units off; 7/16"
     yield "ratio_under", least(lambda n: n > 0 and part_fits(n, part), 10**6), most(lambda n: slow(ratio_under=n), 1), "its part; cells of bent light"
     yield "ratio_over", N["ratio_under"] + 1, N["ratio_under"] + 1, "one more"

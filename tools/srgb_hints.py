@@ -13,6 +13,7 @@ light reaches as many steps as its cell's first light, or one more. Three tables
         white's; more steps than there are say that there is no hint
 """
 import sys
+import textwrap
 from bisect import bisect_right
 from fractions import Fraction
 
@@ -61,8 +62,8 @@ def source():
     yield "// Made by `python3 tools/srgb_hints.py source`, which says how they are laid out. Guesses of the steps that a scene light reaches, by its leading"
     yield "// bits; a test confirms each one's use, so nothing rests on these values."
     yield f"pub const HINTS: [u16; {len(hints)}] = ["
-    for hint in hints:
-        yield f"    {hint},"
+    # as many to a line of 100 characters as the layout puts there
+    yield from textwrap.wrap(", ".join(map(str, hints)) + ",", 100, initial_indent="    ", subsequent_indent="    ")
     yield "];"
 
 

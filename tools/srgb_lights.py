@@ -52,9 +52,7 @@ def specs(lights):
         f"-- {len(lights)} entries from {grouped(lights[0])} to {grouped(lights[-1])}, rising. "
         "Made by `python3 tools/srgb_lights.py specs`; `Light.IsLinearLight` is the rule."
     )
-    yield "use mathlib.Core.List.{List, [], _∷_}"
-    yield "use Prim.Native.Nat.{ℕ, min}"
-    yield "use lib.ListN.{getD}"
+    yield "use Rattle.std.specs.Prelude.{List, [], ◌∷◌, ℕ, min, get_or}"
     yield ""
     yield "unfoldable pub linear_table : List ℕ"
     yield "linear_table ="
@@ -64,7 +62,7 @@ def specs(lights):
     yield ""
     yield "-- the light of value v; above 255 that of 255"
     yield "unfoldable pub linear_light : ℕ → ℕ"
-    yield f"linear_light v = getD linear_table (min v {WHITE}) 0"
+    yield f"linear_light v = get_or linear_table (min v {WHITE}) 0"
 
 
 def greys(lights):
@@ -73,7 +71,7 @@ def greys(lights):
     codes = [FIRST - 1 + bisect_right(steps, 265 * share * s // 10**11) for s in lights]
     yield "-- For each grey of an sRGB value from 0 to 255, in order, its blue HLG code. Made by `python3 tools/srgb_lights.py greys`; nothing is believed of"
     yield "-- them: `GreyLaws` tests each."
-    yield "use mathlib.Core.List.{List, [], _∷_}"
+    yield "use mathlib.Core.List.{List, [], ◌∷◌}"
     yield "use Prim.Native.Nat.{ℕ}"
     yield ""
     yield "unfoldable pub blue_codes : List ℕ"

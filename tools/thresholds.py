@@ -35,8 +35,7 @@ def specs(thresholds):
         f"-- {len(thresholds)} entries from {grouped(thresholds[0])} to {grouped(thresholds[-1])}, rising. "
         "Made by `python3 tools/thresholds.py specs`; `Code.threshold_light` is the rule."
     )
-    yield "use mathlib.Core.List.{List, [], _∷_}"
-    yield "use Prim.Native.Nat.{ℕ}"
+    yield "use Rattle.std.specs.Prelude.{List, [], ◌∷◌, ℕ}"
     yield ""
     yield "unfoldable pub threshold_table : List ℕ"
     yield "threshold_table ="
