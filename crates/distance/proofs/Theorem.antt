@@ -129,4 +129,4 @@ voted source p most =
 
 pub demand : Demand
 unfolding Demand
-demand source some most p codes = voted source p most
+demand source least most p codes = voted source p most

@@ -1,7 +1,7 @@
 -- J, H and the bent signal in k times finer units: fractions that serve go on serving, so that any two sets of them can be had in one unit.
-use mathlib.Core.Path.{◌≡◌, ◌∙◌, subst₂}
+use mathlib.Core.Path.{◌≡◌, subst₂}
 use mathlib.Core.Logic.{inl, inr}
-use Prim.Native.Nat.{ℕ, ◌+◌, ◌-◌, ◌*◌, ◌^◌, ◌<◌}
+use Prim.Native.Nat.{ℕ, ◌+◌, ◌*◌, ◌^◌, ◌<◌}
 use native.Mathlib.Nat.{mul-pos, mul-le-mul_right, mul-lt-mul_of_pos_right}
 use native.Mathlib.Omega.{arith}
 use Rattle.laws.specs.Fraction.{Fraction, over, whole}

@@ -1,3 +1,2 @@
 // The lights at the positions of full-range codes, enclosed by the PQ formula: see proofs/. No function is needed.
 #![tactic(auto)]
-
