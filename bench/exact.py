@@ -16,19 +16,22 @@ from tempfile import TemporaryDirectory
 ROOT = Path(__file__).resolve().parent.parent
 CRATE = "exact_bench"
 SOURCE = """// The exact codes of three mapped components, for C to time.
+#![tactic(auto)]
+
 use hlg::hlg_codes;
 use hlg_steps::step_of;
 use quantity::DisplayLight;
+use std::num::wrapping_add_u64;
 
 // The sum of the three codes.
-#[no_mangle]
+#[unsafe(no_mangle)]
 pub extern "C" fn exact_codes(red: u64, green: u64, blue: u64) -> u64 {
     let codes = hlg_codes(DisplayLight(red), DisplayLight(green), DisplayLight(blue));
-    std::num::wrapping_add_u64(codes.red, std::num::wrapping_add_u64(codes.green, codes.blue))
+    wrapping_add_u64(codes.red, wrapping_add_u64(codes.green, codes.blue))
 }
 
 // A step, for which the table is filled.
-#[no_mangle]
+#[unsafe(no_mangle)]
 pub extern "C" fn exact_step(code: u64) -> u64 {
     step_of(code).0
 }
@@ -37,18 +40,16 @@ pub extern "C" fn exact_step(code: u64) -> u64 {
 
 def build_library(tree, folder):
     """The static library of a tree's `hlg_codes`."""
-    for part in ("crates", "target/rlib", "target/stamp"):
-        if (tree / part).exists():
-            shutil.copytree(tree / part, folder / part)
+    shutil.copytree(tree / "crates", folder / "crates", ignore=shutil.ignore_patterns("out"))
     source = folder / "crates" / CRATE / "src/lib.rt"
     source.parent.mkdir(parents=True)
     source.write_text(SOURCE, encoding="utf-8")
     crates = (tree / "crates.txt").read_text(encoding="utf-8")
-    (folder / "crates.txt").write_text(f"{crates}\n{CRATE}: quantity hlg_steps hlg\n", encoding="utf-8")
-    run = subprocess.run(["rt", "staticlib", CRATE], cwd=folder, capture_output=True, text=True)
+    (folder / "crates.txt").write_text(f"{crates}\n{CRATE} staticlib: quantity hlg_steps hlg\n", encoding="utf-8")
+    run = subprocess.run(["rt", "lib"], cwd=source.parents[1], capture_output=True, text=True)
     if run.returncode:
         raise SystemExit(f"{tree}: not built\n{run.stdout[-2_000:]}{run.stderr[-2_000:]}")
-    return folder / f"target/staticlib/lib{CRATE}.a"
+    return source.parents[1] / f"out/lib{CRATE}.a"
 
 
 def build_program(libraries, folder):

@@ -1,6 +1,6 @@
 /* SPDX-License-Identifier: MIT */
 /* The return path for hosts in C: HLG rows, as a display of 1,000 cd/m2 shows them, to PQ, both of ten bits and narrow range, RGB.
-   Link target/staticlib/libhlg_pq.a, made by `rt staticlib hlg_pq` (x86-64 Linux). A program may link libpq_hlg.a (pq_hlg.h), the
+   Link target/staticlib/libhlg_pq.a, made by `tools/build hlg_pq` (x86-64 Linux). A program may link libpq_hlg.a (pq_hlg.h), the
    way from PQ to HLG, as well. */
 #ifndef HLG_PQ_H
 #define HLG_PQ_H

@@ -1,7 +1,7 @@
 /* SPDX-License-Identifier: MIT */
 /* The converter for hosts in C: PQ rows of ten or twelve bits, narrow or full range, to HLG for a display of 1,000 cd/m2, ten
    bits, narrow range, as RGB or as Y'CbCr; and rows of linear floats to the same RGB.
-   Link target/staticlib/libpq_hlg.a, made by `rt staticlib pq_hlg` (x86-64 Linux). */
+   Link target/staticlib/libpq_hlg.a, made by `tools/build pq_hlg` (x86-64 Linux). */
 #ifndef PQ_HLG_H
 #define PQ_HLG_H
 

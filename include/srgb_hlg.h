@@ -1,6 +1,6 @@
 /* SPDX-License-Identifier: MIT */
 /* Captions for hosts in C: rows of eight-bit sRGB to HLG of ten bits and narrow range, RGB in BT.2020 primaries. White, 255 255 255,
-   becomes 721 721 721, three quarters of HLG's nominal range. Link target/staticlib/libsrgb_hlg.a, made by `rt staticlib srgb_hlg`
+   becomes 721 721 721, three quarters of HLG's nominal range. Link target/staticlib/libsrgb_hlg.a, made by `tools/build srgb_hlg`
    (x86-64 Linux). A program may link libpq_hlg.a (pq_hlg.h) and libhlg_pq.a (hlg_pq.h) as well. */
 #ifndef SRGB_HLG_H
 #define SRGB_HLG_H

@@ -117,7 +117,7 @@ def build(kind, libraries=LIBRARIES, name=None):
     """Compiles compare.c with the libraries; returns the program's path. Two libraries of one kind in one run need two names."""
     for path, (crate, _) in zip(libraries, CRATES.values()):
         if not path.exists():
-            raise SystemExit(f"there is no {path}: run `rt staticlib {crate}` first")
+            raise SystemExit(f"there is no {path}: run `tools/build {crate}` first")
     program = Path(own_folder().name) / f"compare_{name or kind}"
     subprocess.run(["cc", "-std=c11", "-D_GNU_SOURCE", "-Wall", "-Wextra", "-Werror", *FLAGS[kind],
                     "-I", ROOT / "include", ROOT / "tests/host/compare.c", *libraries, "-lm", "-o", program],

@@ -2,7 +2,7 @@
 /* The row calls from C: a grey of 1,004 cd/m2 under a peak of 1,000 and a red of the same code, as RGB and as Y'CbCr, then a
    refused sample, then the grey and the red of a twelve-bit source, first in narrow and then in full range, then linear values: a
    grey and a red of 1,000 cd/m2, and a refused one.
-     rt staticlib pq_hlg
+     tools/build pq_hlg
      gcc -O2 -Wall -Werror -Iinclude tests/host/example.c target/staticlib/libpq_hlg.a -o target/host/example_c
      target/host/example_c */
 #include <inttypes.h>

@@ -1,5 +1,5 @@
 //! The row calls from Rust: the same title as example.c.
-//!   rt staticlib pq_hlg
+//!   tools/build pq_hlg
 //!   rustc -O tests/host/example.rs -L target/staticlib -l static=pq_hlg -o target/host/example_rs
 //!   target/host/example_rs
 

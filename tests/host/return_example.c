@@ -1,7 +1,7 @@
 /* SPDX-License-Identifier: MIT */
 /* There and back from C, through both libraries: an HLG row goes into a PQ programme and comes out again under a peak of 1,000. White,
    a grey that comes back one code lower and document 002's red, each printed as HLG, PQ and HLG again; then a refused sample.
-     rt staticlib pq_hlg && rt staticlib hlg_pq
+     tools/build pq_hlg hlg_pq
      gcc -O2 -Wall -Werror -Iinclude tests/host/return_example.c target/staticlib/libhlg_pq.a target/staticlib/libpq_hlg.a \
          -o target/host/return_example_c
      target/host/return_example_c */

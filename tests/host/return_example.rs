@@ -1,5 +1,5 @@
 //! There and back from Rust, through both libraries: the same row as return_example.c.
-//!   rt staticlib pq_hlg && rt staticlib hlg_pq
+//!   tools/build pq_hlg hlg_pq
 //!   rustc -O tests/host/return_example.rs -L target/staticlib -l static=hlg_pq -l static=pq_hlg -o target/host/return_example_rs
 //!   target/host/return_example_rs
 

@@ -4,10 +4,10 @@ give the same numbers and bytes, only slower.
     python3 -m tests.host.spoiled [--kind KIND] [--seed N] [--library FILE] [--return-library FILE] [--srgb-library FILE]
         [--spoiled FILE FILE FILE]
 
-Copies the crates and what is proved of them to a temporary folder, spoils every number of its tables of hints there,
-has the prover build all libraries, and asks the sound and the spoiled ones the same calls. Only span, pq_hlg, return_span, hlg_pq
-and srgb_hlg are proved again. --spoiled names three libraries that are built already. How much slower they are, is printed; no
-time is asserted.
+Copies the crates to a temporary folder, spoils every number of its tables of hints there, has the prover build all libraries, and
+asks the sound and the spoiled ones the same calls. Of what was proved on this machine only span, return_span, srgb_hlg and the crates
+above them are proved again. --spoiled names three libraries that are built already. How much slower they are, is printed; no time is
+asserted.
 """
 
 import argparse
@@ -31,7 +31,7 @@ from . import linear_rows, return_path, srgb_rows
 from .compare import ROW_PIXELS, Difference, adversarial_rows, batches, damaged_calls, hold, in_both, random_rows, row_of, share
 from .engine import LIBRARIES, LINEAR, RETURN, ROOT, SRGB, Broken, Call, add_libraries, ask, build, libraries_of
 
-ENTRY = re.compile(r"^    (\d+),$", re.M)
+ENTRY = re.compile(r"(?<=\s)(\d+)(?=,)")
 RUN = 16                                 # entries in a row that are spoiled alike: a guess takes two neighbours
 PIXELS = {"random": 40_000, "adversarial": 40_000}      # of ten-bit narrow range, the return path, linear values and sRGB; of each other format a quarter
 DAMAGED = 2_000                          # calls, of the return path a quarter, and as many on linear values and on sRGB
@@ -50,7 +50,7 @@ class Hints(NamedTuple):
     @property
     def proved(self):
         """The crates that are proved again, the library's last."""
-        return list(dict.fromkeys((self.crate, self.library)))
+        return list(dict.fromkeys((self.crate, self.library, self.library + "_c")))
 
     @property
     def tables(self):
@@ -84,30 +84,31 @@ def kind_of(place, layout, kind):
 
 def spoiled_text(text, name, hinted, kind, random):
     """A table of hints with every number spoiled."""
-    hints = list(map(int, ENTRY.findall(text)))
+    head, entries = text.split(" = [\n")
+    hints = list(map(int, ENTRY.findall(entries)))
     declared = re.search(r"const [A-Z]+: \[u(\d+); (\d+)\]", text)
     if not declared or int(declared[2]) != len(hints):
         raise SystemExit(f"{name} does not look as it should")
     bits = int(declared[1])
     spoiled = iter([min(SPOILERS[kind_of(i, hinted.layout, kind)](random, hint, bits, hinted.slope_bits), 2**bits - 1)
                     for i, hint in enumerate(hints)])
-    return ENTRY.sub(lambda _: f"    {next(spoiled)},", text)
+    return head + " = [\n" + ENTRY.sub(lambda _: str(next(spoiled)), entries)
 
 
 def copy_tree(folder):
-    """The crates and the proved libraries, without which all would be proved again."""
+    """The crates, without what was built of them: the prover finds again what it has proved on this machine."""
     shutil.copy(ROOT / "crates.txt", folder)
-    for part in ("crates", "target/rlib", "target/stamp"):
-        shutil.copytree(ROOT / part, folder / part, symlinks=True)
+    shutil.copytree(ROOT / "crates", folder / "crates", ignore=shutil.ignore_patterns("out"))
 
 
 def prove_library(folder, hinted):
     """A static library of a tree; nothing is built from what isn't proved."""
-    run = subprocess.run(["rt", "staticlib", hinted.library], cwd=folder, capture_output=True, text=True)
+    crate = hinted.library + "_c"
+    run = subprocess.run(["rt", "lib"], cwd=folder / "crates" / crate, capture_output=True, text=True)
     if run.returncode:
         raise Difference(f"with spoiled hints {' or '.join(hinted.proved)} is not proved\n{run.stdout[-4_000:]}{run.stderr[-4_000:]}")
     print(f"spoiled hints, proved all the same: {', '.join(hinted.proved)}", flush=True)
-    return folder / f"target/staticlib/lib{hinted.library}.a"
+    return folder / "crates" / crate / f"out/lib{crate}.a"
 
 
 def build_spoiled(folder, kind, random):

@@ -1,6 +1,6 @@
 /* SPDX-License-Identifier: MIT */
 /* Captions from C: white, black, the primaries and their sums, each printed as sRGB and as HLG; then a destination that is too short.
-     rt staticlib srgb_hlg
+     tools/build srgb_hlg
      gcc -O2 -Wall -Werror -Iinclude tests/host/srgb_example.c target/staticlib/libsrgb_hlg.a -o target/host/srgb_example_c
      target/host/srgb_example_c */
 #include <inttypes.h>

@@ -1,5 +1,5 @@
 //! Captions from Rust: the same row as srgb_example.c.
-//!   rt staticlib srgb_hlg
+//!   tools/build srgb_hlg
 //!   rustc -O tests/host/srgb_example.rs -L target/staticlib -l static=srgb_hlg -o target/host/srgb_example_rs
 //!   target/host/srgb_example_rs
 

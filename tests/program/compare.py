@@ -224,7 +224,7 @@ def main(arguments):
     built = options.built.resolve()
     for name in ("rewrite", "measure", "convert", "record_vectors"):
         if not (built / name).exists():
-            sys.exit(f"{built / name} is not there: rt check builds it")
+            sys.exit(f"{built / name} is not there: tools/build builds it")
     try:
         compare_titles(Random(f"titles {options.seed}"), sizes["titles"], built)
         compare_records(Random(f"records {options.seed}"), sizes["records"], built)
