@@ -2,3 +2,4 @@ pub mod OpeningLaws
 pub mod RowsLaws
 pub mod ReadingLaws
 pub mod RewrittenLaws
+pub mod PartLaws

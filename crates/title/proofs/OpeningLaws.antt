@@ -1,21 +1,20 @@
 -- Laws of an opening, from its definitions and those of the card: what it asks for, how far it reaches, and what bytes that come after it change.
 use Prim.Native.Nat.{ℕ, ◌+◌, ◌-◌, ◌<◌, ◌≤◌}
-use mathlib.Core.Bool.{Bool, true, false, cond, true≢false}
+use mathlib.Core.Bool.{Bool, true, false, true≢false}
 use mathlib.Core.List.{List, [], ◌++◌}
 use mathlib.Core.Path.{◌≡◌, refl, sym, ap, ◌∙◌}
 use native.Mathlib.Decide.{dec_lt}
 use native.Mathlib.Omega.{arith}
 use lib.Dec.{eqb, ltb}
-use lib.ListN.{length, drop, length-append, length-drop, drop_of_length-le}
+use lib.ListN.{length, length-append, length-drop, drop_of_length-le}
 use lib.Seq.{drop_at}
 use borrow.Author.Tests.{eqb-false, ltb-false, le-ltb}
 use Rattle.quantity.specs.declared.Source.{Source}
-use Rattle.metadata.specs.Card.{card_bytes, card_answer, following, card_wants}
+use Rattle.metadata.specs.Card.{card_answer, following, card_wants}
 use Rattle.metadata.specs.declared.SourceAnswer.{SourceAnswer}
 use Rattle.metadata.specs.declared.SourceAnswer.TheVariants as card
 use Rattle.metadata.proofs.CardLaws.{wants_none, after_card, at_most_five, wants_within, same_number, settled, follows, wants_on, none_over}
-use Rattle.title.specs.declared.opening.Opening.{Opening}
-use Rattle.title.specs.declared.opening.Opening.TheVariants.{Rows, Refused}
+use Rattle.title.specs.declared.opening.Opening.TheVariants.{Rows}
 use Rattle.title.specs.Opening.{width, width_refused, width_answer, answer_after, opening_answer, rows_of, asked_after, bytes_asked}
 
 -- what an opening asks for and answers, by its card's answer

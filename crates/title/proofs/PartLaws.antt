@@ -1,0 +1,24 @@
+-- A buffer of which a part was written: what was written first stands there with what the buffer held before it.
+use Rattle.std.proofs.Common.{◌≡◌, ℕ, ◌+◌, ◌-◌, ◌≤◌, List, ◌++◌, arith, length, take, slice_range, sym, ap, ◌∙◌, le_refl, drop_at, length-take-le}
+use Rattle.std.proofs.lemmas.Slice.{take-put_mid_below}
+use borrow.Rule.Slice.PartMut.{put_mid, post_of}
+use lib.Seq.{take-add, take-append-le}
+
+take_split : (a b : ℕ) (old new : List ℕ) → a ≤ b → take a new ≡ take a old → take a old ++ slice_range new a b ≡ take b new
+take_split a b old new h front =
+    let same : a + (b - a) ≡ b = omega arith in
+    ap (λ l. l ++ slice_range new a b) (sym front) ∙ sym (take-add a (b - a) new) ∙ ap (λ n. take n new) same
+
+slice_range-put_mid : (a k n : ℕ) (xs ys : List ℕ) → a ≤ length xs → n ≤ length ys → slice_range (put_mid a k xs ys) a (a + n) ≡ take n ys
+slice_range-put_mid a k n xs ys within fits =
+    let same : (a + n) - a ≡ n = omega arith in
+    let after = post_of a k xs in
+    ap (take ((a + n) - a)) (drop_at (take a xs) (ys ++ after) a (length-take-le a xs within)) ∙ ap (λ m. take m (ys ++ after)) same
+    ∙ take-append-le n ys after fits
+
+-- the first bytes of a part, after those before it
+pub part_written : (from room came : ℕ) (old part : List ℕ) → from ≤ length old → came ≤ length part
+    → take from old ++ take came part ≡ take (from + came) (put_mid from room old part)
+part_written from room came old part within fits =
+    let joined = take_split from (from + came) old (put_mid from room old part) (omega arith) (take-put_mid_below _ _ _ _ _ (le_refl _) within) in
+    ap (λ l. take from old ++ l) (sym (slice_range-put_mid from room came old part within fits)) ∙ joined
