@@ -1,10 +1,9 @@
 #!/usr/bin/env python3
 """Try must-fail edits one by one: python3 tools/must_fail.py CRATE [EDIT ...]
 
-Applies each edit of crates/CRATE/must-fail to a copy of the tree, checks the crate there and prints the facts that the prover refuses, so that
+Applies each edit of crates/CRATE/must-fail to a copy of the crates, checks the crate there and prints the facts that the prover refuses, so that
 docs/MUST-FAIL.md can name them. Without EDIT every edit of the crate is tried; --applies only says whether each one still finds its text.
 """
-import os
 import re
 import shutil
 import subprocess
@@ -44,13 +43,14 @@ def refused(crate, edit):
     """the lines of a check of the edited crate that name what failed"""
     with tempfile.TemporaryDirectory() as place:
         tree = Path(place) / "tree"
-        shutil.copytree(ROOT, tree, ignore=shutil.ignore_patterns(".git", "dev"), symlinks=True)
+        shutil.copytree(ROOT / "crates", tree / "crates", ignore=shutil.ignore_patterns("out"))
+        shutil.copy(ROOT / "crates.txt", tree)
         fault = apply(tree / "crates" / crate, edit)
         if fault:
             return False, [fault]
-        run = subprocess.run(["rt", "dev", crate], cwd=tree, capture_output=True, text=True, env={**os.environ, "RT_CUT": "0"})
+        run = subprocess.run(["rt", "check"], cwd=tree / "crates" / crate, capture_output=True, text=True)
         lines = (run.stdout + run.stderr).replace(str(tree), "").splitlines()
-    told = [line for line in lines if re.search(r"error:|not proved|has no `Need", line)]
+    told = [line for line in lines if re.search(r"error:|not proved|has no `", line)]
     first = [line for line in told if not re.search(r"was not admitted|which is not proved", line)]  # without what only follows
     return run.returncode != 0, [line[:300] for line in first[:12]]
 
