@@ -2,11 +2,7 @@
 use Rattle.std.proofs.Common.{sym}
 use Rattle.inverse_oetf.proofs.SceneLaws.{black_scene}
 use Rattle.return_span.proofs.RootLaws.{black_root}
-use Rattle.return_span.proofs.block.rooted_black.Statement.{statement}
-use Rattle.return_span.proofs.block.rooted_black.Tie as tie
+use Rattle.return_span.proofs.block.rooted_black.Goals as goal
 
-returns : tie.Need-returns
+pub returns : goal.returns
 returns c = let dark = sym black_scene in record { red = dark; green = dark; blue = dark; root = black_root }
-
-pub rooted_black_spec : {M : Type 1} → statement M
-rooted_black_spec = tie.close (tie.spec returns)

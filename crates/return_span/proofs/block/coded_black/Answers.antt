@@ -2,13 +2,9 @@
 use Rattle.std.proofs.Common.{sym, le_refl}
 use Rattle.quantity.specs.Component.{red, green, blue, pixel}
 use Rattle.return_pixel.proofs.PixelLaws.{black}
-use Rattle.return_span.proofs.block.coded_black.Statement.{statement}
-use Rattle.return_span.proofs.block.coded_black.Tie as tie
+use Rattle.return_span.proofs.block.coded_black.Goals as goal
 
-returns : tie.Need-returns
+pub returns : goal.returns
 returns c =
     let p = pixel 64 64 64 in
     record { red = sym (black p red (le_refl 64)); green = sym (black p green (le_refl 64)); blue = sym (black p blue (le_refl 64)) }
-
-pub coded_black_spec : {M : Type 1} → statement M
-coded_black_spec = tie.close (tie.spec returns)

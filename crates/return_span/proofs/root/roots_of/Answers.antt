@@ -1,12 +1,12 @@
 -- `return_span::root::roots_of` meets its contract: its two tests compare the power of a guess with that of the root, by `RootLaws`.
-use Rattle.std.proofs.Common.{◌≡◌, ℕ, zero, suc, ◌+◌, ◌-◌, ◌*◌, ◌/◌, ◌%◌, ◌^◌, ◌<◌, ◌≤◌, sym, ap, ◌∙◌, subst, le_trans, lt_irrefl, mod-eq_of_lt, mul-le-mul_left, div-add-mod', arith, lit<, pow_pos, pow_mono, pow-add, rules}
+use Rattle.std.proofs.Common.{◌≡◌, ℕ, zero, suc, ◌+◌, ◌-◌, ◌*◌, ◌/◌, ◌%◌, ◌^◌, ◌<◌, ◌≤◌, sym, ap, ◌∙◌, subst, le_trans, lt_irrefl, mod-eq_of_lt, mul-le-mul_left, div-add-mod', arith, lit<, pow_pos, pow_mono, pow-add}
 use lib.Pow.{shl-shr}
 use Rattle.laws.proofs.DivisionLaws.{floor_le, lt_floor}
 use Rattle.laws.proofs.PowerLaws.{of_power}
 use Rattle.return_span.specs.Settled.{Enclosed}
 use Rattle.return_span.proofs.RootLaws.{black_root, Fifth, fifth_under, fifth_over, lowered, lifted, some_guess, low_root, high_root}
-use Rattle.return_span.proofs.root.roots_of.Statement.{statement}
-use Rattle.return_span.proofs.root.roots_of.Tie as tie
+use Rattle.return_span.proofs.root.roots_of.Goals as goal
+use Rattle.return_span.proofs.root.roots_of.Goals.{After-upper_word-fifth, Else-fifth-power}
 
 -- no root is found
 none : (y : ℕ) → Enclosed 0 0 y
@@ -43,18 +43,20 @@ weighed_up : (n w p : ℕ) → p ≡ n * w / 2 ^ 64 → n * w ≤ (p + 1) * 2 ^ 
 weighed_up n w p e = omega (arith, lt_floor (n * w) (2 ^ 64) (lit< tt))
 
 -- the guess's power, by its three products
-power_of_lem : (c : tie.After-upper-word4) → let square = c.before.before in
-    Fifth square.before.root_hint.result square.upper_word2.result c.before.upper_word3.result c.upper_word4.result
+power_of_lem : (c : After-upper_word-fifth) → Fifth c.root_hint-guess.result c.upper_word-square.result c.upper_word.result c.upper_word-fifth.result
 power_of_lem c =
-    record { square = c.before.before.upper_word2.ensures; fourth = c.before.upper_word3.ensures; fifth = c.upper_word4.ensures }
+    record { square = c.upper_word-square.ensures; fourth = c.upper_word.ensures; fifth = c.upper_word-fifth.ensures }
 
 -- the least that a power may be near to is a word: what is taken off it is at least what is added, or it is small
 least_fits : (p : ℕ) → p < 2 ^ 64 → p - p / 262144 + 4 < 2 ^ 64
 least_fits p h = omega arith
 
 -- a guess that passed both tests is not 0
-some_part : (c : tie.Else3) → let w = c.before.before.before.before.before.root_hint.result in w / 1048576 + 1 ≤ w
-some_part c = let fifth = c.before.before in some_guess _ fifth.upper_word4.result (omega (arith, c.if3.false)) (fifth_under _ _ _ _ (power_of_lem fifth))
+some_part : (c : Else-fifth-power) → let w = c.root_hint-guess.result in w / 1048576 + 1 ≤ w
+some_part c =
+    let power : Fifth c.root_hint-guess.result c.upper_word-square.result c.upper_word.result c.upper_word-fifth.result =
+    record { square = c.upper_word-square.ensures; fourth = c.upper_word.ensures; fifth = c.upper_word-fifth.ensures } in
+    some_guess _ c.upper_word-fifth.result (omega (arith, c.if-fifth-power.false)) (fifth_under _ _ _ _ power)
 
 -- moved down, a number is a quarter of itself at most, so both parts of the upper bound have room in a word
 quartered : (v k : ℕ) → 4 * (v / 2 ^ (26 + k)) ≤ v
@@ -62,65 +64,51 @@ quartered v k =
     let q = v / 2 ^ (26 + k) in
     omega (arith, le_trans (mul-le-mul_left q (pow_mono {i = 2} {j = 26 + k} (omega arith))) (floor_le v (2 ^ (26 + k))))
 
-high_fits : (c : tie.Else3) → let guess = c.before.before.before.before.before in
-    let w = guess.root_hint.result in
-    let shift = 26 + guess.before.before.before.leading_zeros.result / 5 in
+high_fits : (c : Else-fifth-power) → let w = c.root_hint-guess.result in
+    let shift = 26 + c.leading_zeros-z.result / 5 in
     w / 2 ^ shift + (w / 1048576 + 1) / 2 ^ shift + 2 < 2 ^ 64
 high_fits c =
-    let guess = c.before.before.before.before.before in
-    let w = guess.root_hint in
-    let k = guess.before.before.before.leading_zeros.result / 5 in
+    let w = c.root_hint-guess in
+    let k = c.leading_zeros-z.result / 5 in
     omega (arith, w.type_inv, some_part c, quartered w.result k, quartered (w.result / 1048576 + 1) k)
 
-returns_4 : tie.Need-returns-4
-returns_4 c =
-    let fifth = c.before.before in
-    let square = fifth.before.before in
-    let guess = square.before in
-    let power = guess.before in
-    let zeros = power.before.before in
-    let y = zeros.before.args.y in
-    let z = zeros.leading_zeros.result in
-    let w = guess.root_hint.result in
-    let p = fifth.upper_word4.result in
+pub returns : goal.returns
+returns c =
+    let y = c.args.y in
+    let z = c.leading_zeros-z.result in
+    let w = c.root_hint-guess.result in
+    let p = c.upper_word-fifth.result in
     let n = y * 2 ^ z % 2 ^ 64 / 2 ^ (z % 5) in
-    let q = power.upper_word in
+    let q = c.upper_word-power in
     let part = w / 1048576 + 1 in
-    let input = scaled_up y z zeros.leading_zeros.ensures.1 in
+    let input = scaled_up y z c.leading_zeros-z.ensures.1 in
     record {
       low = λ _. low_root y n (2 ^ (z / 5)) q.result input (pow_pos (z / 5)) (w - part) _
-          (lowered w p q.result (w - part) (fifth_over w _ _ p guess.root_hint.type_inv square.upper_word2.type_inv (power_of_lem fifth))
-          c.before.if2.false (omega (arith, some_part c)))
+          (lowered w p q.result (w - part) (fifth_over w _ _ p c.root_hint-guess.type_inv c.upper_word-square.type_inv (power_of_lem (goal.at.returns c).After-upper_word-fifth))
+          c.if-power-fifth.false (omega (arith, some_part (goal.at.returns c).Else-fifth-power)))
           (weighed_down n _ q.result q.ensures) (shifted_down (w - part) (z / 5));
       high = λ _. high_root y n (2 ^ (z / 5)) q.result input (pow_pos (z / 5)) (w + part) _
-          (lifted w p q.result (w + part) (fifth_under w _ _ p (power_of_lem fifth)) c.if3.false (omega arith))
+          (lifted w p q.result (w + part) (fifth_under w _ _ p (power_of_lem (goal.at.returns c).After-upper_word-fifth)) c.if-fifth-power.false (omega arith))
           (weighed_up n _ q.result q.ensures) (shifted_up_both w part (z / 5));
     }
 
-pub roots_of_spec : {M : Type 1} → statement M
-roots_of_spec =
-    tie.close
-    (tie.spec
-    (λ c κs. search rules)
-    (λ c. dark _ _ c.if1.true c.before.leading_zeros.ensures.1)
-    (λ c. search rules)
-    (λ c. search rules)
-    (λ c κs. search rules)
-    (λ c κs. search rules)
-    (λ c κs. search rules)
-    (λ c κs. search rules)
-    (λ c κs. search rules)
-    (λ c. search rules)
-    (λ c. record { fits = least_fits c.upper_word4.result c.upper_word4.type_inv })
-    (λ c. none _)
-    (λ c. search rules)
-    (λ c. none _)
-    (λ c. search rules)
-    (λ c. search rules)
-    some_part
-    (λ c. search rules)
-    (λ c. search rules)
-    (λ c. search rules)
-    (λ c. record { fits = omega (arith, high_fits c) })
-    (λ c. record { fits = high_fits c })
-    returns_4)
+pub returns-then-z-gt63 : goal.returns-then-z-gt63
+returns-then-z-gt63 c = dark _ _ c.if-z-gt63.true c.leading_zeros-z.ensures.1
+
+pub overflow_add-fifth : goal.overflow_add-fifth
+overflow_add-fifth c = record { fits = least_fits c.upper_word-fifth.result c.upper_word-fifth.type_inv }
+
+pub returns-then-power-fifth : goal.returns-then-power-fifth
+returns-then-power-fifth c = none _
+
+pub returns-then-fifth-power : goal.returns-then-fifth-power
+returns-then-fifth-power c = none _
+
+pub overflow_add-result : goal.overflow_add-result
+overflow_add-result c = record { fits = omega (arith, high_fits (goal.at.overflow_add-result c).Else-fifth-power) }
+
+pub overflow_add-result-2 : goal.overflow_add-result-2
+overflow_add-result-2 c = record { fits = high_fits (goal.at.overflow_add-result-2 c).Else-fifth-power }
+
+pub overflow_sub-result : goal.overflow_sub-result
+overflow_sub-result c = some_part (goal.at.overflow_sub-result c).Else-fifth-power

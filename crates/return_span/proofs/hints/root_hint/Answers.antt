@@ -1,0 +1,15 @@
+-- `return_span::hints::root_hint` is safe: the last entry that it reads is 768 + 129 × 4 + 255 + 1.
+use Rattle.std.proofs.Common.{arith}
+use Rattle.return_span.proofs.hints.root_hint.Goals as goal
+
+pub overflow_add-i-2 : goal.overflow_add-i-2
+overflow_add-i-2 c = omega (arith, c.ranges.n)
+
+pub bounds-hints-i : goal.bounds-hints-i
+bounds-hints-i c = omega (arith, c.ranges.n)
+
+pub overflow_add-i-3 : goal.overflow_add-i-3
+overflow_add-i-3 c = omega (arith, c.ranges.n)
+
+pub bounds-hints-i-2 : goal.bounds-hints-i-2
+bounds-hints-i-2 c = omega (arith, c.ranges.n)
