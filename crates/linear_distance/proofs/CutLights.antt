@@ -1,7 +1,7 @@
 -- A peak up to 1,000 and a light of 1,000 cd/m2 or more: the bent light is 1,000 cd/m2, and each HLG code lies at most 9/16 of a code from its exact value.
 use mathlib.Core.Path.{◌∙◌, subst}
 use mathlib.Core.Logic.{inl}
-use Prim.Native.Nat.{ℕ, ◌-◌, ◌≤◌, ◌<◌}
+use Prim.Native.Nat.{ℕ, ◌≤◌, ◌<◌}
 use native.Mathlib.Nat.{le_refl, mul-le-mul_right}
 use native.Mathlib.Omega.{arith}
 use lib.Dec.{lit<}

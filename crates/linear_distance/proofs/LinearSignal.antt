@@ -17,7 +17,7 @@ use Rattle.position.proofs.LightLaws.{light_grows, light_at_entry}
 use Rattle.position.proofs.PositionLaws.{next_light, position_is}
 use Rattle.position.proofs.PeakLaws.{ten_thousand_position}
 use Rattle.peaks.proofs.PeakSignals.{peak_between}
-use Rattle.distance.proofs.BentLightTests.{rise, in_cell_lem}
+use Rattle.distance.proofs.BentLightTests.{in_cell_lem}
 use Rattle.linear_distance.proofs.FoundNumbers.{least_unleft}
 use Rattle.linear_distance.proofs.LinearTests.{steep_at}
 

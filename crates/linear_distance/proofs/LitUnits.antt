@@ -1,7 +1,7 @@
 -- Lights that the curve leaves, the brightest some units or more: each result is its own light, which lies from its whole part to the next unit. So each
 -- HLG code lies at most 9/16 of a code from its exact value.
 use mathlib.Core.Path.{◌≡◌, subst, sym}
-use Prim.Native.Nat.{ℕ, ◌-◌, ◌≤◌, ◌<◌}
+use Prim.Native.Nat.{ℕ, ◌≤◌, ◌<◌}
 use native.Mathlib.Nat.{zero-lt-suc}
 use native.Mathlib.Omega.{arith}
 use lib.Dec.{lit<}
