@@ -1,5 +1,6 @@
 -- What is settled between two lights is the PQ code of the display light between them, by the bounds of a luminance's root or by exact comparisons.
-use Rattle.std.proofs.Common.{◌≡◌, ℕ, ◌+◌, ◌-◌, ◌*◌, ◌/◌, ◌^◌, ◌<◌, ◌≤◌, min, Bool, true, false, List, sym, ◌∙◌, subst, le_refl, le_antisymm, arith, lit<, leb-false, leb-true}
+use Rattle.std.proofs.Common.{◌≡◌, ℕ, ◌+◌, ◌-◌, ◌*◌, ◌/◌, ◌^◌, ◌<◌, ◌≤◌, min, Bool, true, false, List, sym, ◌∙◌, subst, le_refl, le_antisymm, arith, lit<}
+use Rattle.std.proofs.Common.{leb-false, leb-true}
 use native.Mathlib.Decide.{dec_le}
 use Rattle.laws.proofs.DivisionLaws.{floor_le, lt_floor}
 use Rattle.quantity.specs.Units.{ten_thousand}
@@ -74,10 +75,12 @@ module _ (y s c : ℕ) (hy : y ≤ 10000 * 1803467062476) (hs : s ≤ 1803467062
       let ec : min c ten_thousand ≡ c = omega arith in
       rw (ey, es, ec)
 
-  pub reached_by_comparison : {b : Bool} → b ≡ at_least (min y (10000 * scene_light 1019)) (scene_read s) (min c ten_thousand) → b ≡ true → c ≤ display_light y s
+  pub reached_by_comparison : {b : Bool} → b ≡ at_least (min y (10000 * scene_light 1019)) (scene_read s) (min c ten_thousand) → b ≡ true
+      → c ≤ display_light y s
   unfolding at_least
   reached_by_comparison e t = reached_le y s c hc (leb-true _ _ (sym (e ∙ as_read) ∙ t))
 
-  pub missed_by_comparison : {b : Bool} → b ≡ at_least (min y (10000 * scene_light 1019)) (scene_read s) (min c ten_thousand) → b ≡ false → display_light y s < c
+  pub missed_by_comparison : {b : Bool} → b ≡ at_least (min y (10000 * scene_light 1019)) (scene_read s) (min c ten_thousand) → b ≡ false
+      → display_light y s < c
   unfolding at_least
   missed_by_comparison e t = missed_above y s c (leb-false _ _ (sym (e ∙ as_read) ∙ t))

@@ -1,6 +1,7 @@
 -- A guess whose fifth power, in three products rounded down, comes near the power that the root of a luminance has, encloses that root within a part of
 -- itself: by polynomials, with nothing about words.
-use Rattle.std.proofs.Common.{◌≡◌, ℕ, ◌+◌, ◌-◌, ◌*◌, ◌/◌, ◌^◌, ◌<◌, ◌≤◌, [], ◌∷◌, subst, le_trans, mul-le-mul_left, mul-pos, not-le_of_lt, le_of_mul-le-mul_right, arith, lit<}
+use Rattle.std.proofs.Common.{◌≡◌, ℕ, ◌+◌, ◌-◌, ◌*◌, ◌/◌, ◌^◌, ◌<◌, ◌≤◌, [], ◌∷◌, subst, le_trans, mul-le-mul_left, mul-pos, not-le_of_lt}
+use Rattle.std.proofs.Common.{le_of_mul-le-mul_right, arith, lit<}
 use native.Mathlib.Nat.{le_of_mul-le-mul_left, pow-le-pow_left, one-le-pow}
 use native.Mathlib.Decide.{dec_le}
 use Rattle.laws.proofs.DivisionLaws.{floor_le, lt_floor}

@@ -56,7 +56,8 @@ wide_is l red =
     taken_both (size from_xyz red red * xyz l red) (size from_xyz red green * xyz l green) (size from_xyz red blue * xyz l blue) (mixed (product red) l)
     (omega arith)
 wide_is l green =
-    taken_first (size from_xyz green red * xyz l red) (size from_xyz green green * xyz l green) (size from_xyz green blue * xyz l blue) (mixed (product green) l)
+    taken_first (size from_xyz green red * xyz l red) (size from_xyz green green * xyz l green) (size from_xyz green blue * xyz l blue)
+    (mixed (product green) l)
     (omega arith)
 wide_is l blue =
     taken_second (size from_xyz blue red * xyz l red) (size from_xyz blue green * xyz l green) (size from_xyz blue blue * xyz l blue) (mixed (product blue) l)

@@ -1,5 +1,6 @@
 -- `return_span::root::roots_of` meets its contract: its two tests compare the power of a guess with that of the root, by `RootLaws`.
-use Rattle.std.proofs.Common.{◌≡◌, ℕ, zero, suc, ◌+◌, ◌-◌, ◌*◌, ◌/◌, ◌%◌, ◌^◌, ◌<◌, ◌≤◌, sym, ap, ◌∙◌, subst, le_trans, lt_irrefl, mod-eq_of_lt, mul-le-mul_left, div-add-mod', arith, lit<, pow_pos, pow_mono, pow-add}
+use Rattle.std.proofs.Common.{◌≡◌, ℕ, zero, suc, ◌+◌, ◌-◌, ◌*◌, ◌/◌, ◌%◌, ◌^◌, ◌<◌, ◌≤◌, sym, ap, ◌∙◌, subst, le_trans, lt_irrefl, mod-eq_of_lt}
+use Rattle.std.proofs.Common.{mul-le-mul_left, div-add-mod', arith, lit<, pow_pos, pow_mono, pow-add}
 use lib.Pow.{shl-shr}
 use Rattle.laws.proofs.DivisionLaws.{floor_le, lt_floor}
 use Rattle.laws.proofs.PowerLaws.{of_power}
@@ -82,13 +83,14 @@ returns c =
     let q = c.upper_word-power in
     let part = w / 1048576 + 1 in
     let input = scaled_up y z c.leading_zeros-z.ensures.1 in
+    let power = power_of_lem (goal.at.returns c).After-upper_word-fifth in
     record {
       low = λ _. low_root y n (2 ^ (z / 5)) q.result input (pow_pos (z / 5)) (w - part) _
-          (lowered w p q.result (w - part) (fifth_over w _ _ p c.root_hint-guess.type_inv c.upper_word-square.type_inv (power_of_lem (goal.at.returns c).After-upper_word-fifth))
+          (lowered w p q.result (w - part) (fifth_over w _ _ p c.root_hint-guess.type_inv c.upper_word-square.type_inv power)
           c.if-power-fifth.false (omega (arith, some_part (goal.at.returns c).Else-fifth-power)))
           (weighed_down n _ q.result q.ensures) (shifted_down (w - part) (z / 5));
       high = λ _. high_root y n (2 ^ (z / 5)) q.result input (pow_pos (z / 5)) (w + part) _
-          (lifted w p q.result (w + part) (fifth_under w _ _ p (power_of_lem (goal.at.returns c).After-upper_word-fifth)) c.if-fifth-power.false (omega arith))
+          (lifted w p q.result (w + part) (fifth_under w _ _ p power) c.if-fifth-power.false (omega arith))
           (weighed_up n _ q.result q.ensures) (shifted_up_both w part (z / 5));
     }
 

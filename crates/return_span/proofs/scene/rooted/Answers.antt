@@ -20,7 +20,8 @@ blue_read c = c.scene_light_in-blue.ensures ∙ scene_read_lem _ c.args.b c.requ
 pub weigh-y-requires : goal.weigh-y-requires
 weigh-y-requires c =
     let a = c.args in
-    (within a.r (red_read (goal.at.weigh-y-requires c).After-scene_light_in-blue), within a.g (green_read (goal.at.weigh-y-requires c).After-scene_light_in-blue), within a.b (blue_read (goal.at.weigh-y-requires c).After-scene_light_in-blue))
+    let read = (goal.at.weigh-y-requires c).After-scene_light_in-blue in
+    (within a.r (red_read read), within a.g (green_read read), within a.b (blue_read read))
 
 pub returns : goal.returns
 returns c = (
