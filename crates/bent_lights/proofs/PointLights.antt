@@ -13,7 +13,8 @@ use Rattle.bent_lights.proofs.FoundNumbers.{points_apart, first_point_cell, last
 use Rattle.bent_lights.proofs.PointTests.{Point, point_at, first_in, one, one→, every_point}
 use Rattle.bent_lights.proofs.PointsPass.{middle_cell, points_below, points_above}
 
-walked : (k c : ℕ) → k + c ≤ 3505 → T (every_point k c) → (i : ℕ) → k ≤ point_at i / 256 → point_at i / 256 + 1 < k + c → Point (light_at (point_at i)) (point_at i)
+walked : (k c : ℕ) → k + c ≤ 3505 → T (every_point k c) → (i : ℕ) → k ≤ point_at i / 256 → point_at i / 256 + 1 < k + c
+    → Point (light_at (point_at i)) (point_at i)
 unfolding light_at
 walked k c h t i from to =
     let x = place_tested first_in one k c h t (point_at i / 256) i from to (omega arith) (omega arith) in

@@ -122,5 +122,6 @@ in_cell_is k l hk h g =
         let over : f < r % 256 = omega arith in
         absurd (not-le_of_lt (part_high p d l (r % 256) (omega arith) h over) (rw (same, add-one) at hl))
 
-pub in_cell_lem : (k l : ℕ) → k < 3504 → light_entry k ≤ l → l < light_entry (suc k) → position_of l ≡ in_cell k (light_entry k) (light_entry (suc k) - light_entry k) l
+pub in_cell_lem : (k l : ℕ) → k < 3504 → light_entry k ≤ l → l < light_entry (suc k)
+    → position_of l ≡ in_cell k (light_entry k) (light_entry (suc k) - light_entry k) l
 in_cell_lem k l hk h g = sym (position_unique l (in_cell k (light_entry k) (light_entry (suc k) - light_entry k) l) (in_cell_is k l hk h g))
