@@ -3,6 +3,11 @@
 
 use rewritten_title::{MOST_BLOCKS, rewrite_title};
 
-fn main() {
-    rewrite_title(MOST_BLOCKS);
+fn main(rt: HostRuntime) {
+    rewrite_title(
+        &mut rt.stdin(),
+        &mut rt.stdout(),
+        &mut rt.stderr(),
+        MOST_BLOCKS,
+    );
 }
