@@ -10,11 +10,11 @@ use Rattle.position.proofs.CodeLaws.{black_light}
 use Rattle.hlg.specs.Code.{luminance, hlg_code, HlgCodes}
 use Rattle.hlg.specs.Root.{IsRoot}
 use Rattle.hlg.proofs.CodeLaws.{code_from, code_to, code_black}
-use Rattle.pixel.specs.Conversion.{brightest_light, mapped, code}
+use Rattle.pixel.specs.Conversion.{brightest_light, mapped}
 use Rattle.pixel.proofs.PixelLaws.{mapped_dark, mapped_at_most}
 use Rattle.rows.specs.Row.{pixel_at, pixel_bytes, pixels_bytes}
 use Rattle.ycbcr.specs.declared.SignalFormat.{SignalFormat}
-use Rattle.ycbcr.specs.Delivery.{in_format, delivered}
+use Rattle.ycbcr.specs.Delivery.{in_format}
 use Rattle.ycbcr.proofs.DeliveryLaws.{format_at_most}
 use Rattle.span.specs.Block.{
   HasMapped,

@@ -1,0 +1,18 @@
+-- `span::block::code_next` meets its contract: the last samples serve equal components, and the calls find any others.
+use Rattle.std.proofs.Common.{◌≡◌, sym, refl, arith}
+use Rattle.span.proofs.BlockLaws.{codes_fit, has_samples}
+use Rattle.span.proofs.block.code_next.Goals as goal
+
+pub returns-then-blue-last : goal.returns-then-blue-last
+returns-then-blue-last c =
+    let start = c in
+    let r : start.args.red ≡ start.args.last.red = omega arith in
+    let g : start.args.green ≡ start.args.last.green = omega arith in
+    let b : start.args.blue ≡ start.args.last.blue = omega arith in
+    (sym r, sym g, sym b, rw (r, g, b) start.requires.5)
+
+pub returns : goal.returns
+returns c = (refl, refl, refl, has_samples _ c.near_codes-codes.ensures c.samples_in.ensures)
+
+pub samples_in-requires : goal.samples_in-requires
+samples_in-requires c = codes_fit c.near_codes-codes.ensures
