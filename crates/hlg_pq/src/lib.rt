@@ -1,5 +1,5 @@
-// The return path's calls: one pixel, a span of a row, and the row call for a host in C. Samples are HLG code values in and PQ ones out, both of ten bits
-// and narrow range, at 1,000 cd/m2.
+// The return path's calls: one pixel, a span of a row, and what `hlg_pq_c` exports to a host in C. Samples are HLG code values in and PQ ones out, both of
+// ten bits and narrow range, at 1,000 cd/m2.
 #![tactic(auto)]
 
 ghost use Rattle.std.specs.Prelude.{◌≡◌, length};
@@ -49,9 +49,8 @@ pub fn convert_row(row: &[u8], dst: &mut [u8], first: usize, end: usize) -> RowA
     RowAnswer::Converted
 }
 
-// The row call for a host in C: 0, or the refusal plus 256 times its place.
-#[unsafe(no_mangle)]
-pub extern "C" fn hlg_pq_convert_row(row: &[u8], dst: &mut [u8], first: usize, end: usize) -> u64
+// What the row call for a host in C answers: 0, or the refusal plus 256 times its place. `hlg_pq_c` exports it under this name.
+pub fn hlg_pq_convert_row(row: &[u8], dst: &mut [u8], first: usize, end: usize) -> u64
     ensures { (result ≡ host_number (row_answer row.now (length dst.old) first end))
         × (dst.new ≡ destination_after row.now dst.old first end) }
 {
