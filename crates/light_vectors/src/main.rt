@@ -4,12 +4,12 @@
 #![tactic(auto)]
 
 use big_endian::{byte_at, number_at};
-use libc::{STDIN_FILENO, STDOUT_FILENO};
 use position::code::{code_position, light_of_code};
 use position::{light_at, position_of};
 use pq::light_entry;
 use quantity::sample_format::format_of;
 use quantity::{DisplayLight, Position};
+use std::io::Read;
 
 fn answer_of(byte: u64, number: u64) -> u64 {
     let call = byte % 8;
@@ -34,22 +34,22 @@ fn answer_of(byte: u64, number: u64) -> u64 {
 }
 
 // One question and its answer; false at the end of the input, which may cut a question short, and after a failed write.
-fn answer_next() -> bool {
+fn answer_next(input: &mut impl Read, output: &impl Print) -> bool {
     let mut question = [0u8; 9];
-    let got = io::read_full(STDIN_FILENO, &mut question);
-    if got != 9 {
+    if input.read_exact(&mut question).is_err() {
         return false;
     }
     let high = number_at(&question, 1) << 16 | number_at(&question, 3);
     let low = number_at(&question, 5) << 16 | number_at(&question, 7);
     let answer = answer_of(byte_at(&question, 0), high << 32 | low);
-    io::print_decimal(STDOUT_FILENO, answer) && io::write_all(STDOUT_FILENO, b"\n")
+    output.print(answer).is_ok() && output.write_all(b"\n").is_ok()
 }
 
-fn main() {
+fn main(rt: HostRuntime) {
+    let mut input = rt.stdin();
     // more than are stored: the limit is there so that the loop ends on any input
     let mut questions: u64 = 1000000;
-    while questions > 0 && answer_next() {
+    while questions > 0 && answer_next(&mut input, &rt) {
         questions -= 1;
     }
 }
