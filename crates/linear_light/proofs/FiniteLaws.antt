@@ -1,5 +1,6 @@
 -- A value less itself is 0 where it is a number, and otherwise none: how a program tells what refusal 16 is for.
-use Rattle.std.proofs.Common.{◌≡◌, ℕ, ◌-◌, ◌*◌, ◌<◌, Bool, true, false, cond, not, ◌&&◌, ◌||◌, eqb, ltb, sym, refl, ◌∙◌, le_refl, mul-pos, zero-mul, arith, lit<, le-ltb, eq-eqb}
+use Rattle.std.proofs.Common.{◌≡◌, ℕ, ◌-◌, ◌*◌, ◌<◌, Bool, true, false, cond, not, ◌&&◌, ◌||◌, eqb, ltb, sym, refl, ◌∙◌, le_refl, mul-pos, zero-mul, arith}
+use Rattle.std.proofs.Common.{lit<, le-ltb, eq-eqb}
 use mathlib.Core.Bool.{beq}
 use native.Mathlib.Nat.{eq_of_mul-eq-mul_right}
 use lib.Ieee.{Float, nan, inf, fin, up, down, sub, sum, round, binary32, eq}

@@ -1,5 +1,7 @@
 -- The product of a 32-bit float with 2^24 is a 64-bit float, unrounded, so that its whole part is that of the exact product.
-use Rattle.std.proofs.Common.{◌≡◌, ℕ, suc, ◌+◌, ◌-◌, ◌*◌, ◌/◌, ◌^◌, ◌<◌, ◌≤◌, true, false, not, T, ℤ, pos, negsuc, sym, ap, ◌∙◌, subst, true≢false, lt_of_lt_of_le, lt_of_le_of_lt, le_of_lt, mul_assoc, div-lt_iff_lt-mul, mul-le-mul, lt_of_mul-lt-mul_right, mul-lt-mul_of_pos_right, mul-pos, mul-one, mul_right_comm, arith, lit<, lit≤, lt→ltb, pow_pos, pow_mono, pow-add, ltb-false}
+use Rattle.std.proofs.Common.{◌≡◌, ℕ, suc, ◌+◌, ◌-◌, ◌*◌, ◌/◌, ◌^◌, ◌<◌, ◌≤◌, true, false, not, T, ℤ, pos, negsuc, sym, ap, ◌∙◌, subst, true≢false}
+use Rattle.std.proofs.Common.{lt_of_lt_of_le, lt_of_le_of_lt, le_of_lt, mul_assoc, div-lt_iff_lt-mul, mul-le-mul, lt_of_mul-lt-mul_right}
+use Rattle.std.proofs.Common.{mul-lt-mul_of_pos_right, mul-pos, mul-one, mul_right_comm, arith, lit<, lit≤, lt→ltb, pow_pos, pow_mono, pow-add, ltb-false}
 use lib.Ieee.{Float, nan, inf, fin, up, down, fits, mul, round, binary32, binary64, lt, to_unsigned, is_nan}
 use lib.Ieee.Exact.{HasValue, round_exact}
 use lib.Ieee.Fits.{down_pos}

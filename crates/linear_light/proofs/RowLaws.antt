@@ -1,5 +1,6 @@
 -- Laws of rows of values: what passed tests say, that the pixels of a part of a row are the row's, and the destination after a call that converts.
-use Rattle.std.proofs.Common.{◌≡◌, ℕ, ◌+◌, ◌-◌, ◌*◌, ◌/◌, ◌%◌, ◌<◌, ◌≤◌, false, not, eqb, ltb, List, ◌++◌, length, take, drop, refl, ap, ◌∙◌, arith, length-drop, length-take, get_or-drop, get_or-take, ltb-false, ltb-true, eqb-true}
+use Rattle.std.proofs.Common.{◌≡◌, ℕ, ◌+◌, ◌-◌, ◌*◌, ◌/◌, ◌%◌, ◌<◌, ◌≤◌, false, not, eqb, ltb, List, ◌++◌, length, take, drop, refl, ap, ◌∙◌, arith}
+use Rattle.std.proofs.Common.{length-drop, length-take, get_or-drop, get_or-take, ltb-false, ltb-true, eqb-true}
 use lib.Ieee.{Float, nan}
 use borrow.Author.Tests.{not-false}
 use Rattle.quantity.specs.Component.{Pixel}

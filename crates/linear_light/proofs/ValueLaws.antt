@@ -1,5 +1,7 @@
 -- Laws of values: what a format's digits say of a 32-bit float, that its size is a whole number of 1/2^149 cd/m2, and the range of values as they count.
-use Rattle.std.proofs.Common.{◌≡◌, ℕ, zero, suc, ◌+◌, ◌-◌, ◌*◌, ◌/◌, ◌%◌, ◌^◌, ◌<◌, ◌≤◌, Bool, true, false, cond, not, ◌&&◌, T, eqb, ltb, leb, ℤ, pos, negsuc, sym, refl, ap, ◌∙◌, subst, mul-le-mul_right, mul_assoc, mul_comm, mul-pos, one-mul, zero-mul, mul-one, not-le_of_lt, mul-div_cancel, arith, lit<, lit≤, eqb→eq, ltb→lt, leb→le, pow_pos, pow-add, ltb-false}
+use Rattle.std.proofs.Common.{◌≡◌, ℕ, zero, suc, ◌+◌, ◌-◌, ◌*◌, ◌/◌, ◌%◌, ◌^◌, ◌<◌, ◌≤◌, Bool, true, false, cond, not, ◌&&◌, T, eqb, ltb, leb, ℤ, pos, negsuc}
+use Rattle.std.proofs.Common.{sym, refl, ap, ◌∙◌, subst, mul-le-mul_right, mul_assoc, mul_comm, mul-pos, one-mul, zero-mul, mul-one, not-le_of_lt}
+use Rattle.std.proofs.Common.{mul-div_cancel, arith, lit<, lit≤, eqb→eq, ltb→lt, leb→le, pow_pos, pow-add, ltb-false}
 use native.Mathlib.Nat.{zero-div, div-le_of_le-mul}
 use lib.Dec.{nleb→lt}
 use lib.Pow.{pow-lt}

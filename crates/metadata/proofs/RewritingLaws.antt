@@ -115,5 +115,6 @@ pub examples :
     × (rewriting (3 ∷ 0 ∷ 0 ∷ 15 ∷ 160 ∷ []) ≡ Nothing)
     × (rewriting (1 ∷ 0 ∷ []) ≡ Refuses 3)
     × (rewriting (32 ∷ []) ≡ Refuses 2)
-unfolding rewritten rewriting rewritten_bits following card_answer unknown_bit card_bytes field_out_of_range out_of_range known names_no_peak peak format number_at
+unfolding rewritten rewriting rewritten_bits following card_answer unknown_bit card_bytes field_out_of_range out_of_range known names_no_peak peak
+    format number_at
 examples = (refl, refl, refl, refl, refl, refl, refl, refl, refl, refl, refl)

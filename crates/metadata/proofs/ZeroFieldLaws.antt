@@ -70,7 +70,8 @@ module _ (c p : ℕ) (h : p < 4) (xs : List ℕ) where
   max_cll_by : (next : ℕ) → choice (stands 0 ((4 * c + p) ∷ xs)) (max_cll ((4 * c + p) ∷ xs)) next ≡ max_cllby p ((4 * c + p) ∷ xs) next
   max_cll_by next = rw zero_bit
 
-  mastering_peak_by_lem : (next : ℕ) → choice (stands 1 ((4 * c + p) ∷ xs)) (mastering_peak ((4 * c + p) ∷ xs)) next ≡ mastering_peak_by p ((4 * c + p) ∷ xs) next
+  mastering_peak_by_lem : (next : ℕ)
+      → choice (stands 1 ((4 * c + p) ∷ xs)) (mastering_peak ((4 * c + p) ∷ xs)) next ≡ mastering_peak_by p ((4 * c + p) ∷ xs) next
   mastering_peak_by_lem next = rw (zero_bit, one_bit)
 
 same_order : (m n k l : ℕ) → m ≡ k + 2 → n ≡ l + 2 → ltb m n ≡ ltb k l

@@ -1,6 +1,6 @@
 // A title copied from its first byte to its last, its card rewritten where it names no peak. No contract can say which bytes a system call reads or
-// writes: that the calls made here, in this order, give the rewritten title is `program_bytes_lem`. Whatever is amiss is told where errors are told, in a program
-// on standard error, so that a copy of which nothing is told is whole.
+// writes: that the calls made here, in this order, give the rewritten title is `program_bytes_lem`. Whatever is amiss is told where errors are told, in a
+// program on standard error, so that a copy of which nothing is told is whole.
 #![tactic(auto)]
 
 use metadata::after_metadata;

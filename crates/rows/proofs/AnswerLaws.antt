@@ -1,5 +1,6 @@
 -- Laws of the tests of a span, for any test of a sample: what a passed test says, and what a destination and a host's number are after each answer.
-use Rattle.std.proofs.Common.{◌≡◌, ℕ, suc, ◌+◌, ◌-◌, ◌*◌, ◌/◌, ◌%◌, ◌^◌, ◌<◌, ◌≤◌, Bool, true, false, cond, not, ◌||◌, eqb, ltb, List, ◌++◌, length, take, drop, sym, refl, ap, ◌∙◌, mod-eq_of_lt, arith, length-drop, length-take, ltb-false, ltb-true, eqb-true}
+use Rattle.std.proofs.Common.{◌≡◌, ℕ, suc, ◌+◌, ◌-◌, ◌*◌, ◌/◌, ◌%◌, ◌^◌, ◌<◌, ◌≤◌, Bool, true, false, cond, not, ◌||◌, eqb, ltb, List, ◌++◌, length, take}
+use Rattle.std.proofs.Common.{drop, sym, refl, ap, ◌∙◌, mod-eq_of_lt, arith, length-drop, length-take, ltb-false, ltb-true, eqb-true}
 use borrow.Author.Tests.{not-false}
 use Rattle.quantity.specs.Component.{Pixel}
 use Rattle.rows.specs.declared.RowAnswer.{RowAnswer}

@@ -1,6 +1,7 @@
 -- Laws of rows whose samples each come from one element, whatever the elements are: what passed tests say, that the pixels of a part of a row are the row's,
 -- and the destination after a call that converts.
-use Rattle.std.proofs.Common.{◌≡◌, ℕ, ◌+◌, ◌-◌, ◌*◌, ◌/◌, ◌%◌, ◌<◌, ◌≤◌, false, not, eqb, ltb, List, ◌++◌, length, get_or, take, drop, sym, refl, ap, ◌∙◌, arith, length-drop, length-take, get_or-drop, get_or-take, ltb-false, eqb-true}
+use Rattle.std.proofs.Common.{◌≡◌, ℕ, ◌+◌, ◌-◌, ◌*◌, ◌/◌, ◌%◌, ◌<◌, ◌≤◌, false, not, eqb, ltb, List, ◌++◌, length, get_or, take, drop, sym, refl, ap, ◌∙◌}
+use Rattle.std.proofs.Common.{arith, length-drop, length-take, get_or-drop, get_or-take, ltb-false, eqb-true}
 use borrow.Author.Tests.{not-false}
 use Rattle.quantity.specs.Component.{Pixel}
 use Rattle.rows.specs.declared.RowAnswer.{RowAnswer}

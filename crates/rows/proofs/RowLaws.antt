@@ -1,6 +1,8 @@
 -- Laws of rows, for whatever gives a span's pixels: samples, pixels and spans of a part of a row are those of the row, and what is put in its place joins
 -- what stands before it.
-use Rattle.std.proofs.Common.{◌≡◌, ℕ, zero, suc, ◌+◌, ◌-◌, ◌*◌, ◌/◌, ◌%◌, ◌<◌, ◌≤◌, List, [], ◌∷◌, ◌++◌, length, get_or, take, drop, set, sym, refl, ap, ◌∙◌, ap₂, append_assoc, append-nil, add-zero, add-suc, zero-add, arith, length-append, drop_of_length-le, get_or-drop, get_or-take, get_or-append-add}
+use Rattle.std.proofs.Common.{◌≡◌, ℕ, zero, suc, ◌+◌, ◌-◌, ◌*◌, ◌/◌, ◌%◌, ◌<◌, ◌≤◌, List, [], ◌∷◌, ◌++◌, length, get_or, take, drop, set, sym, refl, ap, ◌∙◌}
+use Rattle.std.proofs.Common.{ap₂, append_assoc, append-nil, add-zero, add-suc, zero-add, arith, length-append, drop_of_length-le, get_or-drop, get_or-take}
+use Rattle.std.proofs.Common.{get_or-append-add}
 use native.Mathlib.Decide.{dec_lt}
 use lib.ListN.{get_or-append}
 use Rattle.laws.proofs.PartLaws.{part_back, part_next}
@@ -167,4 +169,5 @@ pixel_of_span f row (suc n) j h i = go (dec_lt j n) (pixel_of_span f row n j)
     go (no l) before =
         let e : j ≡ n = omega arith in
         let g : 0 + n ≡ j = omega arith in
-        pixel_after front last n j (length_pixels (converted f row) 0 n) e i ∙ pixel_sample (f (pixel_at row (0 + n))) i ∙ ap (λ (k : ℕ). f (pixel_at row k) i) g
+        pixel_after front last n j (length_pixels (converted f row) 0 n) e i ∙ pixel_sample (f (pixel_at row (0 + n))) i
+        ∙ ap (λ (k : ℕ). f (pixel_at row k) i) g

@@ -1,5 +1,6 @@
 -- Laws of a block's passes: one pixel more mapped, one root more, and the bytes of the mapped pixels as those of the span, in either signal format.
-use Rattle.std.proofs.Common.{◌≡◌, ℕ, zero, suc, ◌+◌, ◌*◌, ◌<◌, ◌≤◌, List, ◌++◌, length, get_or, set, sym, refl, ap, ◌∙◌, ap₂, zero-add, add-one, arith, length-append, length-set, get_or-set_other, get_or-set_same, below_none, below_more}
+use Rattle.std.proofs.Common.{◌≡◌, ℕ, zero, suc, ◌+◌, ◌*◌, ◌<◌, ◌≤◌, List, ◌++◌, length, get_or, set, sym, refl, ap, ◌∙◌, ap₂, zero-add, add-one, arith}
+use Rattle.std.proofs.Common.{length-append, length-set, get_or-set_other, get_or-set_same, below_none, below_more}
 use mathlib.Core.Path.{fun_ext}
 use Rattle.quantity.specs.Units.{thousand}
 use Rattle.quantity.specs.declared.sample_format.SampleFormat.{SampleFormat}
@@ -131,7 +132,8 @@ module _ (format : SignalFormat) where
       ap₂ (λ (l : List ℕ) (q : Pixel). l ++ pixel_bytes (samples_of format q)) (block_is_pixels p words n (λ k h. m k (omega arith))) here
 
   -- the bytes of one pixel more
-  pub block_more : (words : List ℕ) (n : ℕ) → block_bytes format words (n + 1) ≡ block_bytes format words n ++ pixel_bytes (samples_of format (words_at words n))
+  pub block_more : (words : List ℕ) (n : ℕ)
+      → block_bytes format words (n + 1) ≡ block_bytes format words n ++ pixel_bytes (samples_of format (words_at words n))
   unfolding block_bytes
   block_more words n = ap (block_bytes format words) (add-one n)
 
@@ -159,7 +161,8 @@ module _ (format : SignalFormat) where
       let top = format_at_most format (λ i. hlg_code Y (p i)) (record { least = λ i. code_from Y (p i); most = λ i. code_to Y (p i) }) in
       (omega (arith, h.first, top red), omega (arith, h.second, top green), omega (arith, h.third, top blue))
 
-  pub sample_bytes : (p : Pixel) {x y z : ℕ} → HasSamples format (p red) (p green) (p blue) x y z → pixel_bytes (pixel x y z) ≡ pixel_bytes (samples_of format p)
+  pub sample_bytes : (p : Pixel) {x y z : ℕ}
+      → HasSamples format (p red) (p green) (p blue) x y z → pixel_bytes (pixel x y z) ≡ pixel_bytes (samples_of format p)
   unfolding pixel_bytes
   sample_bytes p h =
       let whole : pixel (p red) (p green) (p blue) ≡ p = fun_ext (elim [ red ↦ refl | green ↦ refl | blue ↦ refl ]) in

@@ -32,7 +32,8 @@ module _ (source : Source) (p : Pixel) where
   brightest_light_is er eg eb e = omega arith
 
   -- by a lent light table l and the peak's position w; neither light nor position is past the end at which the curve reads it
-  pub bent_is : (l : List ℕ) (w : ℕ) {M m N : ℕ} → l ≡ light_table → w ≡ position_of (source.peak * units) → M ≡ brightest_light f p → m ≡ brightest_position f p
+  pub bent_is : (l : List ℕ) (w : ℕ) {M m N : ℕ}
+      → l ≡ light_table → w ≡ position_of (source.peak * units) → M ≡ brightest_light f p → m ≡ brightest_position f p
       → N ≡ bent_light_in (entry_in l) source.peak (peak_position_read w) (min M ten_thousand) (min m last_position) → N ≡ bent source p
   unfolding bent
   bent_is l w {M} {m} el ew e_m em e =

@@ -1,5 +1,6 @@
 -- Laws for rows of floats: a light's position by its cell, the curve at a light that has no code, and what floats are mapped to.
-use Rattle.std.proofs.Common.{◌≡◌, ℕ, suc, pred, ◌+◌, ◌-◌, ◌*◌, ◌/◌, ◌<◌, ◌≤◌, min, Bool, true, false, List, sym, refl, ap, ◌∙◌, subst, ap₂, le_trans, lt_of_not-le, not-le_of_lt, add-one, arith}
+use Rattle.std.proofs.Common.{◌≡◌, ℕ, suc, pred, ◌+◌, ◌-◌, ◌*◌, ◌/◌, ◌<◌, ◌≤◌, min, Bool, true, false, List, sym, refl, ap, ◌∙◌, subst, ap₂, le_trans}
+use Rattle.std.proofs.Common.{lt_of_not-le, not-le_of_lt, add-one, arith}
 use mathlib.Core.Path.{fun_ext}
 use lib.Ieee.{Float}
 use Rattle.quantity.specs.Units.{units, thousand, ten_thousand, last_position}

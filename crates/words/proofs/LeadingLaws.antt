@@ -1,5 +1,6 @@
 -- The zeros before the first one of a word: what they leave of it, and that only one number does.
-use Rattle.std.proofs.Common.{◌≡◌, ℕ, zero, suc, ◌+◌, ◌*◌, ◌^◌, ◌<◌, ◌≤◌, sym, ap, ◌∙◌, le_of_eq, lt_of_lt_of_le, mul-le-mul_right, zero-lt-suc, add_comm, le_antisymm, mul-le-mul_left, mul-lt-mul_of_pos_right, arith, pow_pos, pow_mono, pow-add}
+use Rattle.std.proofs.Common.{◌≡◌, ℕ, zero, suc, ◌+◌, ◌*◌, ◌^◌, ◌<◌, ◌≤◌, sym, ap, ◌∙◌, le_of_eq, lt_of_lt_of_le, mul-le-mul_right, zero-lt-suc, add_comm}
+use Rattle.std.proofs.Common.{le_antisymm, mul-le-mul_left, mul-lt-mul_of_pos_right, arith, pow_pos, pow_mono, pow-add}
 use native.Mathlib.Decide.{dec_le}
 use lib.Count.{count_leading_zeros, leading_length, leading_of_zero, leading_top}
 

@@ -1,5 +1,6 @@
 -- A tested quotient: the rest that the lower words leave makes the product where there is a rest below the divisor, and nowhere else.
-use Rattle.std.proofs.Common.{◌≡◌, ℕ, ◌+◌, ◌*◌, ◌/◌, ◌%◌, ◌^◌, ◌<◌, ◌≤◌, Bool, true, false, ◌&&◌, ltb, leb, sym, ap, ◌∙◌, ap₂, lt_of_not-le, arith, ltb-true, le-ltb, lt-ltb, le-leb, leb-true}
+use Rattle.std.proofs.Common.{◌≡◌, ℕ, ◌+◌, ◌*◌, ◌/◌, ◌%◌, ◌^◌, ◌<◌, ◌≤◌, Bool, true, false, ◌&&◌, ltb, leb, sym, ap, ◌∙◌, ap₂, lt_of_not-le, arith, ltb-true}
+use Rattle.std.proofs.Common.{le-ltb, lt-ltb, le-leb, leb-true}
 use mathlib.Core.Bool.{and-eq-true_iff}
 use native.Mathlib.Decide.{dec_le, dec_lt}
 use borrow.Author.Tests.{lt-leb}

@@ -1,6 +1,7 @@
 -- `span::block::code_pixels` meets its contract. The invariant: the destination holds the bytes of the first j pixels and then its own, and the last
 -- pixel has its samples. The measure is the number of pixels left.
-use Rattle.std.proofs.Common.{◌≡◌, ℕ, ◌+◌, ◌-◌, ◌*◌, ◌≤◌, List, ◌++◌, length, drop, sym, refl, ap, ◌∙◌, append-nil, arith, length-drop, drop_of_length-le, length-take}
+use Rattle.std.proofs.Common.{◌≡◌, ℕ, ◌+◌, ◌-◌, ◌*◌, ◌≤◌, List, ◌++◌, length, drop, sym, refl, ap, ◌∙◌, append-nil, arith, length-drop, drop_of_length-le}
+use Rattle.std.proofs.Common.{length-take}
 use borrow.Rule.Slice.PartMut.{same_len_mid}
 use Rattle.quantity.specs.Component.{red, green, blue}
 use Rattle.rows.specs.Row.{pixel_bytes}

@@ -28,12 +28,12 @@ pub overflow_sub-result : goal.overflow_sub-result
 overflow_sub-result c = omega (arith, low_is (goal.at.overflow_sub-result c).After-entry_in-next, c.cell_of-k.ensures.from)
 
 rises : (c : After-entry_in-next) → c.entry_in-low.result.0 < c.entry_in-next.result.0
-rises c = let cell = c.cell_of-k.ensures in omega (arith, low_is (goal.at.After-entry_in-next c).After-entry_in-next, next_is (goal.at.After-entry_in-next c).After-entry_in-next, cell.from, cell.to)
+rises c = let cell = c.cell_of-k.ensures in omega (arith, low_is c, next_is c, cell.from, cell.to)
 
 position : (c : After-entry_in-next) → let low = c.entry_in-low.result.0 in let k = c.cell_of-k.result in
     let l = c.args.l in
     256 * k + (256 * (l - low + 1) - 1) / (c.entry_in-next.result.0 - low) ≡ position_of l
-position c = position_by_cell _ _ _ _ c.cell_of-k.ensures (low_is (goal.at.After-entry_in-next c).After-entry_in-next) (next_is (goal.at.After-entry_in-next c).After-entry_in-next)
+position c = position_by_cell _ _ _ _ c.cell_of-k.ensures (low_is c) (next_is c)
 
 pub overflow_add-result-2 : goal.overflow_add-result-2
 unfolding last_position

@@ -1,5 +1,6 @@
 -- `span::root::lower_root` meets its contract: its tests are those of a guess near the root, and its three roundings those of a step, by `EnclosureLaws`.
-use Rattle.std.proofs.Common.{◌≡◌, ℕ, zero, ◌+◌, ◌-◌, ◌*◌, ◌/◌, ◌%◌, ◌^◌, ◌<◌, ◌≤◌, sym, refl, ap, ◌∙◌, lt_of_le_of_lt, lt_irrefl, mod-lt, mod-eq_of_lt, div-add-mod', arith, lit<, lit≤, pow_pos, pow_mono, pow-add}
+use Rattle.std.proofs.Common.{◌≡◌, ℕ, zero, ◌+◌, ◌-◌, ◌*◌, ◌/◌, ◌%◌, ◌^◌, ◌<◌, ◌≤◌, sym, refl, ap, ◌∙◌, lt_of_le_of_lt, lt_irrefl, mod-lt, mod-eq_of_lt}
+use Rattle.std.proofs.Common.{div-add-mod', arith, lit<, lit≤, pow_pos, pow_mono, pow-add}
 use lib.Pow.{shl-shr, shr_le}
 use Rattle.laws.proofs.DivisionLaws.{floor_is}
 use Rattle.laws.proofs.PowerLaws.{of_power}
