@@ -90,9 +90,9 @@ pub fn convert_row_ycbcr(
     deliver_row(source, SignalFormat::YCbCr, row, dst, first, end)
 }
 
-// The row call for a host in C: 0, or the refusal plus 256 times its place. Bits 3 and 4 of the format mean twelve bits and full range.
-#[unsafe(no_mangle)]
-pub extern "C" fn pq_hlg_convert_row(
+// The row call for a host in C, exported by `pq_hlg_c`: 0, or the refusal plus 256 times its place. Bits 3 and 4 of the format mean twelve bits and full
+// range.
+pub fn pq_hlg_convert_row(
     peak: u64,
     format: u64,
     row: &[u8],
@@ -107,8 +107,7 @@ pub extern "C" fn pq_hlg_convert_row(
 }
 
 // The Y'CbCr row call for a host in C: the same number.
-#[unsafe(no_mangle)]
-pub extern "C" fn pq_hlg_convert_row_ycbcr(
+pub fn pq_hlg_convert_row_ycbcr(
     peak: u64,
     format: u64,
     row: &[u8],

@@ -55,8 +55,7 @@ pub fn convert_linear_row(
 }
 
 // The row call for a host in C, whose number is made as that of the other calls. The row's length is counted in floats.
-#[unsafe(no_mangle)]
-pub extern "C" fn pq_hlg_convert_row_linear(
+pub fn pq_hlg_convert_row_linear(
     peak: u64,
     row: &[f32],
     dst: &mut [u8],
