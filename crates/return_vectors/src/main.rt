@@ -10,10 +10,10 @@ use big_endian::{byte_at, number_at};
 use hlg_pq::convert_pixel;
 use inverse_eotf::pq_code_of;
 use inverse_oetf::scene_light_of;
-use libc::{STDIN_FILENO, STDOUT_FILENO};
 use ootf::{Lights, display_lights, has_light};
 use quantity::{DisplayLight, SceneLight};
 use rows::PixelAnswer;
+use std::io::Read;
 
 // The 8-byte number that starts at a place of a question.
 fn wide_number_at(question: &[u8], place: usize) -> u64
@@ -25,71 +25,73 @@ fn wide_number_at(question: &[u8], place: usize) -> u64
 }
 
 // A number and the byte that follows it; whether both were written.
-fn print_number(number: u64, after: u8) -> bool {
-    if io::print_decimal(STDOUT_FILENO, number) {
-        return io::write_all(STDOUT_FILENO, &[after]);
+fn print_number(output: &impl Print, number: u64, after: u8) -> bool {
+    if output.print(number).is_ok() {
+        return output.write_all(&[after]).is_ok();
     }
     false
 }
 
-fn print_three(first: u64, second: u64, third: u64) -> bool {
-    print_number(first, b' ') && print_number(second, b' ') && print_number(third, b'\n')
+fn print_three(output: &impl Print, first: u64, second: u64, third: u64) -> bool {
+    print_number(output, first, b' ')
+        && print_number(output, second, b' ')
+        && print_number(output, third, b'\n')
 }
 
-fn print_lights(lights: Lights) -> bool {
+fn print_lights(output: &impl Print, lights: Lights) -> bool {
     let red = lights.red;
     let green = lights.green;
     let blue = lights.blue;
-    print_three(red.0, green.0, blue.0)
+    print_three(output, red.0, green.0, blue.0)
 }
 
-fn print_answer(answer: PixelAnswer) -> bool {
+fn print_answer(output: &impl Print, answer: PixelAnswer) -> bool {
     match answer {
-        PixelAnswer::Codes(red, green, blue) => print_three(red, green, blue),
+        PixelAnswer::Codes(red, green, blue) => print_three(output, red, green, blue),
         PixelAnswer::Refused(number, place) => {
-            io::write_all(STDOUT_FILENO, b"refused ")
-                && print_number(number, b' ')
-                && print_number(place, b'\n')
+            output.write_all(b"refused ").is_ok()
+                && print_number(output, number, b' ')
+                && print_number(output, place, b'\n')
         }
     }
 }
 
-fn answer(call: u64, first: u64, second: u64, third: u64) -> bool {
+fn answer(output: &impl Print, call: u64, first: u64, second: u64, third: u64) -> bool {
     if call == 0 {
         let scene = scene_light_of(first);
-        return print_number(scene.0, b'\n');
+        return print_number(output, scene.0, b'\n');
     }
     if call == 1 {
         let lights = display_lights(SceneLight(first), SceneLight(second), SceneLight(third));
-        return print_lights(lights);
+        return print_lights(output, lights);
     }
     if call == 2 {
-        return print_number(pq_code_of(DisplayLight(first)), b'\n');
+        return print_number(output, pq_code_of(DisplayLight(first)), b'\n');
     }
     if call == 3 {
         let reached = has_light(first, SceneLight(second), DisplayLight(third));
-        return print_number(reached as u64, b'\n');
+        return print_number(output, reached as u64, b'\n');
     }
-    print_answer(convert_pixel(first, second, third))
+    print_answer(output, convert_pixel(first, second, third))
 }
 
 // One question and its answer; false at the end of the input, which may cut a question short, and after a failed write.
-fn answer_next() -> bool {
+fn answer_next(input: &mut impl Read, output: &impl Print) -> bool {
     let mut question = [0u8; 25];
-    let got = io::read_full(STDIN_FILENO, &mut question);
-    if got != 25 {
+    if input.read_exact(&mut question).is_err() {
         return false;
     }
     let first = wide_number_at(&question, 1);
     let second = wide_number_at(&question, 9);
     let third = wide_number_at(&question, 17);
-    answer(byte_at(&question, 0), first, second, third)
+    answer(output, byte_at(&question, 0), first, second, third)
 }
 
-fn main() {
+fn main(rt: HostRuntime) {
+    let mut input = rt.stdin();
     // more than are stored: the limit is there so that the loop ends on any input
     let mut questions: u64 = 1000000;
-    while questions > 0 && answer_next() {
+    while questions > 0 && answer_next(&mut input, &rt) {
         questions -= 1;
     }
 }
