@@ -1,5 +1,5 @@
-// Captions from sRGB: one pixel, a span of a row, and the row call for a host in C. Eight-bit sRGB values in, HLG codes of ten bits and narrow range out; white
-// is three quarters of the HLG signal.
+// Captions from sRGB: one pixel, a span of a row, and what `srgb_hlg_c` exports to a host in C. Eight-bit sRGB values in, HLG codes of ten bits and narrow
+// range out; white is three quarters of the HLG signal.
 #![tactic(auto)]
 
 mod code;
@@ -55,9 +55,8 @@ pub fn convert_row(row: &[u8], dst: &mut [u8], first: usize, end: usize) -> RowA
     RowAnswer::Converted
 }
 
-// The row call for a host in C: 0, or the refusal; its place is always 0.
-#[unsafe(no_mangle)]
-pub extern "C" fn srgb_hlg_convert_row(row: &[u8], dst: &mut [u8], first: usize, end: usize) -> u64
+// What the row call for a host in C answers: 0, or the refusal; its place is always 0. `srgb_hlg_c` exports it under this name.
+pub fn srgb_hlg_convert_row(row: &[u8], dst: &mut [u8], first: usize, end: usize) -> u64
     ensures { (result ≡ host_number (row_answer row.now (length dst.old) first end))
         × (dst.new ≡ destination_after row.now dst.old first end) }
 {

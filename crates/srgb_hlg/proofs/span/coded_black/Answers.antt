@@ -3,12 +3,8 @@ use Rattle.std.proofs.Common.{sym}
 use Rattle.quantity.specs.Component.{red, green, blue}
 use Rattle.srgb.specs.Conversion.{caption_codes}
 use Rattle.srgb.proofs.PixelLaws.{black}
-use Rattle.srgb_hlg.proofs.span.coded_black.Statement.{statement}
-use Rattle.srgb_hlg.proofs.span.coded_black.Tie as tie
+use Rattle.srgb_hlg.proofs.span.coded_black.Goals as goal
 
-returns : tie.Need-returns
+pub returns : goal.returns
 unfolding caption_codes
 returns c = record { red = sym (black red); green = sym (black green); blue = sym (black blue) }
-
-pub coded_black_spec : {M : Type 1} → statement M
-coded_black_spec = tie.close (tie.spec returns)
