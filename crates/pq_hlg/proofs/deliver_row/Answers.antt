@@ -27,9 +27,8 @@ returns-in-Refused c =
 
 pub returns : goal.returns
 returns c =
-    let told = c in
-    let a = told.args in
-    (sym (converted (goal.at.returns told).In_default), row_converted (delivered a.format) _ _ _ _ _ _ _ (converted (goal.at.returns told).In_default) c.convert_span.ensures (omega arith))
+    let e = converted (goal.at.returns c).In_default in
+    (sym e, row_converted (delivered c.args.format) _ _ _ _ _ _ _ e c.convert_span.ensures (omega arith))
 
 pub overflow_mul-from : goal.overflow_mul-from
 overflow_mul-from c = let k = tested (goal.at.overflow_mul-from c).In_default in omega arith

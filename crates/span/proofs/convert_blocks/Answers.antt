@@ -14,15 +14,14 @@ loop-j-init c = (omega arith, refl, refl)
 
 pub convert_block-requires : goal.convert_block-requires
 convert_block-requires c =
-    let s = c in
-    let a = s.args in
+    let a = c.args in
     let loop = c.loop-j in
     let n = c.fewer-count.result in (
-      s.requires.0,
-      s.requires.1,
-      s.requires.2,
-      s.requires.3,
-      fewer_pixels a.linear _ _ (loop.j + n) a.pixels (omega arith) s.requires.4,
+      c.requires.0,
+      c.requires.1,
+      c.requires.2,
+      c.requires.3,
+      fewer_pixels a.linear _ _ (loop.j + n) a.pixels (omega arith) c.requires.4,
       omega arith,
       simp (length-take, length-drop) (omega arith),
     )

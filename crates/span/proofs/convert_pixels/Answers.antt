@@ -8,18 +8,15 @@ unfolding units
 curve_of-curve-requires c = c.fill_lights-w.ensures
 
 pub convert_blocks-requires : goal.convert_blocks-requires
-convert_blocks-requires c =
-    let curve = c in
-    let s = curve in (
-      curve.fill_lights-w.ensures.0,
-      c.step_table-steps.ensures,
-      curve.curve_of-curve.ensures.1,
-      curve.curve_of-curve.ensures.0,
-      s.requires.0,
-      s.requires.1,
-    )
+convert_blocks-requires c = (
+  c.fill_lights-w.ensures.0,
+  c.step_table-steps.ensures,
+  c.curve_of-curve.ensures.1,
+  c.curve_of-curve.ensures.0,
+  c.requires.0,
+  c.requires.1,
+)
 
 pub returns : goal.returns
 returns c =
-    let curve = c in
-    rw (sym curve.read_source-read.ensures.0) c.convert_blocks.ensures
+    rw (sym c.read_source-read.ensures.0) c.convert_blocks.ensures

@@ -27,8 +27,8 @@ returns-in-Refused c =
 
 pub returns : goal.returns
 returns c =
-    let told = c in
-    (sym (converted (goal.at.returns told).In_default), converted_row _ _ _ _ _ _ _ (converted (goal.at.returns told).In_default) c.convert_linear_span.ensures (omega arith))
+    let e = converted (goal.at.returns c).In_default in
+    (sym e, converted_row _ _ _ _ _ _ _ e c.convert_linear_span.ensures (omega arith))
 
 pub overflow_mul-value : goal.overflow_mul-value
 overflow_mul-value c = let k = tested (goal.at.overflow_mul-value c).In_default in omega arith

@@ -5,11 +5,10 @@ use Rattle.span.proofs.block.code_next.Goals as goal
 
 pub returns-then-blue-last : goal.returns-then-blue-last
 returns-then-blue-last c =
-    let start = c in
-    let r : start.args.red ≡ start.args.last.red = omega arith in
-    let g : start.args.green ≡ start.args.last.green = omega arith in
-    let b : start.args.blue ≡ start.args.last.blue = omega arith in
-    (sym r, sym g, sym b, rw (r, g, b) start.requires.5)
+    let r : c.args.red ≡ c.args.last.red = omega arith in
+    let g : c.args.green ≡ c.args.last.green = omega arith in
+    let b : c.args.blue ≡ c.args.last.blue = omega arith in
+    (sym r, sym g, sym b, rw (r, g, b) c.requires.5)
 
 pub returns : goal.returns
 returns c = (refl, refl, refl, has_samples _ c.near_codes-codes.ensures c.samples_in.ensures)

@@ -21,13 +21,12 @@ loop-j-init c = (omega arith, refl, refl, c.coded_black-last.ensures)
 
 pub code_next-last-requires : goal.code_next-last-requires
 code_next-last-requires c =
-    let start = c in
-    let a = start.args in
+    let a = c.args in
     let loop = c.loop-j in
     let m = c.words_of-m.ensures in
-    let light = within_at a.words.now a.pixels loop.j start.requires.2 (omega arith) in
-    let root = roots_at a.words.now a.roots.now a.pixels loop.j start.requires.3 (omega arith) in
-    (start.requires.0, rw m.0 (light red), rw m.1 (light green), rw m.2 (light blue), rw (m.0, m.1, m.2) root, loop.invariant.3)
+    let light = within_at a.words.now a.pixels loop.j c.requires.2 (omega arith) in
+    let root = roots_at a.words.now a.roots.now a.pixels loop.j c.requires.3 (omega arith) in
+    (c.requires.0, rw m.0 (light red), rw m.1 (light green), rw m.2 (light blue), rw (m.0, m.1, m.2) root, loop.invariant.3)
 
 pub write_samples-requires : goal.write_samples-requires
 write_samples-requires c =

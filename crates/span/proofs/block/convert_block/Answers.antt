@@ -9,18 +9,16 @@ map_block-requires c = let pre = c.requires in (pre.0, pre.2, pre.3, pre.4, pre.
 
 pub code_block-requires : goal.code_block-requires
 code_block-requires c =
-    let s = c in
-    let a = s.args in
+    let a = c.args in
     let mapped = c.map_block.ensures in (
-      s.requires.1,
-      s.requires.5,
+      c.requires.1,
+      c.requires.5,
       within_mapped _ _ _ (λ k. mapped_pixel_at_most a.linear a.source a.src.now a.values.now (a.j + k)) mapped,
-      s.requires.6,
+      c.requires.6,
     )
 
 pub returns : goal.returns
 returns c =
-    let s = c in
-    let a = s.args in
+    let a = c.args in
     c.code_block.ensures
     ∙ block_from a.linear a.format a.source a.src.now a.values.now a.j _ _ c.map_block.ensures

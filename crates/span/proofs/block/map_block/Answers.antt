@@ -16,15 +16,13 @@ use Rattle.span.proofs.block.map_block.Goals.{Else-linear, Then-linear}
 -- the row has the pixels
 values_there : (c : Then-linear) → let a = c.args in 3 * (a.j + a.pixels) ≤ length a.values.now
 values_there c =
-    let s = c in
-    let a = s.args in
-    subst (λ (b : Bool). HasPixels b (length a.src.now) (length a.values.now) (a.j + a.pixels)) c.if-linear.true s.requires.3
+    let a = c.args in
+    subst (λ (b : Bool). HasPixels b (length a.src.now) (length a.values.now) (a.j + a.pixels)) c.if-linear.true c.requires.3
 
 codes_there : (c : Else-linear) → let a = c.args in 6 * (a.j + a.pixels) ≤ length a.src.now
 codes_there c =
-    let s = c in
-    let a = s.args in
-    subst (λ (b : Bool). HasPixels b (length a.src.now) (length a.values.now) (a.j + a.pixels)) c.if-linear.false s.requires.3
+    let a = c.args in
+    subst (λ (b : Bool). HasPixels b (length a.src.now) (length a.values.now) (a.j + a.pixels)) c.if-linear.false c.requires.3
 
 pub map_linear_pixels-requires : goal.map_linear_pixels-requires
 map_linear_pixels-requires c =
@@ -33,14 +31,12 @@ map_linear_pixels-requires c =
 
 pub returns-then-linear : goal.returns-then-linear
 returns-then-linear c =
-    let s = c in
-    let a = s.args in
-    let there = c in
+    let a = c.args in
     let n = 3 * a.j + 3 * a.pixels - 3 * a.j in
-    of_kind a.source a.src.now a.values.now a.j a.pixels _ there.if-linear.true
+    of_kind a.source a.src.now a.values.now a.j a.pixels _ c.if-linear.true
     (mapped_same (mapped_floats a.curve.peak (take n (drop (3 * a.j) a.values.now)))
     (λ k. mapped_floats a.source.peak a.values.now (a.j + k)) _ _
-    (λ k h. ap₂ linear_mapped s.requires.2 (linear.pixel_of_part a.values.now (3 * a.j) n k (a.j + k) (omega arith) (omega arith)))
+    (λ k h. ap₂ linear_mapped c.requires.2 (linear.pixel_of_part a.values.now (3 * a.j) n k (a.j + k) (omega arith) (omega arith)))
     c.map_linear_pixels.ensures)
 
 pub map_pixels-requires : goal.map_pixels-requires
@@ -55,11 +51,9 @@ map_pixels-requires c =
 
 pub returns : goal.returns
 returns c =
-    let s = c in
-    let a = s.args in
-    let there = c in
+    let a = c.args in
     let n = 6 * a.j + 6 * a.pixels - 6 * a.j in
-    of_kind a.source a.src.now a.values.now a.j a.pixels _ there.if-linear.false
+    of_kind a.source a.src.now a.values.now a.j a.pixels _ c.if-linear.false
     (mapped_same (mapped_row a.source (take n (drop (6 * a.j) a.src.now))) (λ k. mapped_row a.source a.src.now (a.j + k)) _ _
     (λ k h. ap (mapped a.source) (pixel_of_part a.src.now (6 * a.j) n k (a.j + k) (omega arith) (omega arith)))
     c.map_pixels.ensures)

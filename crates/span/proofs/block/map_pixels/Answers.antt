@@ -11,14 +11,12 @@ use Rattle.span.proofs.block.map_pixels.Goals as goal
 
 pub loop-j-init : goal.loop-j-init
 loop-j-init c =
-    let start = c in
     let k = c.mapped_black-last.ensures in
-    (omega arith, start.requires.4, mapped_none _ _, black_mapped start.args.source k.0 k.1 k.2 k.3 k.4 k.5)
+    (omega arith, c.requires.4, mapped_none _ _, black_mapped c.args.source k.0 k.1 k.2 k.3 k.4 k.5)
 
 pub map_next-last-requires : goal.map_next-last-requires
 map_next-last-requires c =
-    let start = c in
-    (start.requires.0, start.requires.1, simp (length-take, length-drop) (omega arith), c.loop-j.invariant.3)
+    (c.requires.0, c.requires.1, simp (length-take, length-drop) (omega arith), c.loop-j.invariant.3)
 
 pub loop-j-preserved : goal.loop-j-preserved
 loop-j-preserved c =

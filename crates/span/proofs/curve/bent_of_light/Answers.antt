@@ -14,15 +14,13 @@ returns-then-curve-le1000 c =
 
 pub returns-then-l-curve : goal.returns-then-l-curve
 returns-then-l-curve c =
-    let start = c in
-    let a = start.args in
-    let curve = start.requires.1 in
+    let a = c.args in
+    let curve = c.requires.1 in
     let below = rw (curve.start, curve.position) at c.if-l-curve.true in
     sym (below_knee_light a.curve.peak a.l (omega arith) below)
 
 pub returns : goal.returns
 returns c =
-    let start = c in
-    let a = start.args in
-    curved_light a.curve.peak a.l (omega arith) a.lights.now a.curve.position _ start.requires.0 start.requires.1.position start.requires.2
+    let a = c.args in
+    curved_light a.curve.peak a.l (omega arith) a.lights.now a.curve.position _ c.requires.0 c.requires.1.position c.requires.2
     c.position_in-m.ensures c.knee_curve-bent.ensures

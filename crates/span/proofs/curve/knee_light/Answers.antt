@@ -18,8 +18,7 @@ overflow_add-top c = omega (arith, c.position_in.ensures, (position_is 167772160
 pub returns : goal.returns
 unfolding knee_light units thousand
 returns c =
-    let start = c in
-    let w = start.args.w.0 in
+    let w = c.args.w.0 in
     let top = 3 * c.position_in.result + 1 in
     let at : (top - c.smaller.result) / 2 ≡ (3 * position_of thousand + 1 - w) / 2 = omega (arith, c.position_in.ensures) in
-    c.light_in-light.ensures ∙ lent_light _ _ start.requires ∙ ap light_at at
+    c.light_in-light.ensures ∙ lent_light _ _ c.requires ∙ ap light_at at

@@ -6,9 +6,8 @@ use Rattle.span.proofs.delivery.write_samples.Goals as goal
 
 pub returns : goal.returns
 returns c =
-    let start = c in
-    let samples = start.args.samples in
-    pixel_stored (pixel samples.first samples.second samples.third) start.args.dst.now start.requires.0 (omega arith)
+    let samples = c.args.samples in
+    pixel_stored (pixel samples.first samples.second samples.third) c.args.dst.now c.requires.0 (omega arith)
 
 pub bounds-dst-4 : goal.bounds-dst-4
 bounds-dst-4 c = simp length-set (omega arith)

@@ -10,12 +10,11 @@ use Rattle.span.proofs.linear.map_lights.Goals.{After-bent_of_light-m2}
 
 pub returns-then-m1-m2 : goal.returns-then-m1-m2
 returns-then-m1-m2 c =
-    let bent = c in
-    let a = bent.args in
+    let a = c.args in
     let x = pixel a.r a.g a.b in
     let peak = a.curve.peak in
-    let m1 = bent.brightest_of-m1.ensures in
-    let m2 = bent.bent_of_light-m2.ensures in
+    let m1 = c.brightest_of-m1.ensures in
+    let m2 = c.bent_of_light-m2.ensures in
     let same = c.if-m1-m2.true in
     record {
       red = lights_mapped peak x red m1 m2 (unbent_light a.r _ _ (omega arith) same);
@@ -40,12 +39,11 @@ scaled-requires-3 c = let r = room (goal.at.scaled-requires-3 c).After-bent_of_l
 
 pub returns : goal.returns
 returns c =
-    let bent = c in
-    let a = bent.args in
+    let a = c.args in
     let x = pixel a.r a.g a.b in
     let peak = a.curve.peak in
-    let m1 = bent.brightest_of-m1.ensures in
-    let m2 = bent.bent_of_light-m2.ensures in
+    let m1 = c.brightest_of-m1.ensures in
+    let m2 = c.bent_of_light-m2.ensures in
     record {
       red = lights_mapped peak x red m1 m2 c.scaled.ensures;
       green = lights_mapped peak x green m1 m2 c.scaled-2.ensures;

@@ -13,40 +13,36 @@ use Rattle.span.proofs.linear.map_linear_pixels.Goals as goal
 
 pub loop-j-init : goal.loop-j-init
 loop-j-init c =
-    let start = c in
     let k = c.no_light-last.ensures in
-    (omega arith, start.requires.4, mapped_none _ _, no_light_mapped start.args.curve.peak k.0 k.1 k.2 k.3 k.4 k.5)
+    (omega arith, c.requires.4, mapped_none _ _, no_light_mapped c.args.curve.peak k.0 k.1 k.2 k.3 k.4 k.5)
 
 pub linear_pixel-p-requires : goal.linear_pixel-p-requires
 linear_pixel-p-requires c = omega (arith, c.requires.3)
 
 pub map_next_lights-last-requires : goal.map_next_lights-last-requires
-map_next_lights-last-requires c =
-    let start = c in (
-      start.requires.0,
-      start.requires.1,
-      rw c.light_of_value-r.ensures (whole_at_most _),
-      rw c.light_of_value-g.ensures (whole_at_most _),
-      rw c.light_of_value-b.ensures (whole_at_most _),
-      c.loop-j.invariant.3,
-    )
+map_next_lights-last-requires c = (
+  c.requires.0,
+  c.requires.1,
+  rw c.light_of_value-r.ensures (whole_at_most _),
+  rw c.light_of_value-g.ensures (whole_at_most _),
+  rw c.light_of_value-b.ensures (whole_at_most _),
+  c.loop-j.invariant.3,
+)
 
 pub loop-j-preserved : goal.loop-j-preserved
 loop-j-preserved c =
-    let start = c in
-    let a = start.args in
+    let a = c.args in
     let loop = c.loop-j in
     let more : loop.j < a.pixels = c.loop-j-test.true in
-    let room : 3 * loop.j + 2 < length loop.words = omega (arith, start.requires.2, loop.invariant.1) in
+    let room : 3 * loop.j + 2 < length loop.words = omega (arith, c.requires.2, loop.invariant.1) in
     let next = c.map_next_lights-last in
     let n = next.ensures in
     let m = next.result.mapped in
     let stored = c.store_words.ensures in
-    let lit = c in
-    let read = lit.linear_pixel-p.ensures in
+    let read = c.linear_pixel-p.ensures in
     let same =
-    values_mapped a.curve.peak (linear_at a.src.now loop.j) (lit.light_of_value-r.ensures ∙ ap whole_light read.0)
-    (lit.light_of_value-g.ensures ∙ ap whole_light read.1) (lit.light_of_value-b.ensures ∙ ap whole_light read.2) in
+    values_mapped a.curve.peak (linear_at a.src.now loop.j) (c.light_of_value-r.ensures ∙ ap whole_light read.0)
+    (c.light_of_value-g.ensures ∙ ap whole_light read.1) (c.light_of_value-b.ensures ∙ ap whole_light read.2) in
     let here : HasMapped (mapped_floats a.curve.peak a.src.now loop.j) m.red m.green m.blue =
     subst (λ (q : Pixel). HasMapped q m.red m.green m.blue) same n.3 in
     (omega arith, rw stored (simp length-set loop.invariant.1), rw stored (mapped_more _ _ _ loop.invariant.2 here room), rw (n.0, n.1, n.2) n.3)

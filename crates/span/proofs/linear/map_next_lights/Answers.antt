@@ -4,8 +4,7 @@ use Rattle.span.proofs.linear.map_next_lights.Goals as goal
 
 pub returns-then-b-last : goal.returns-then-b-last
 returns-then-b-last c =
-    let start = c in
-    let r : start.args.r ≡ start.args.last.red = omega arith in
-    let g : start.args.g ≡ start.args.last.green = omega arith in
-    let b : start.args.b ≡ start.args.last.blue = omega arith in
-    (sym r, sym g, sym b, rw (r, g, b) start.requires.5)
+    let r : c.args.r ≡ c.args.last.red = omega arith in
+    let g : c.args.g ≡ c.args.last.green = omega arith in
+    let b : c.args.b ≡ c.args.last.blue = omega arith in
+    (sym r, sym g, sym b, rw (r, g, b) c.requires.5)

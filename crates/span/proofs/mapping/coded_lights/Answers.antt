@@ -8,11 +8,10 @@ use Rattle.span.proofs.mapping.coded_lights.Goals as goal
 pub returns : goal.returns
 unfolding brightest_position
 returns c =
-    let start = c in
-    let a = start.args in
+    let a = c.args in
     record {
-      red = c.light_of_code_in-red.ensures ∙ lent_code_light _ a.format a.r start.requires;
-      green = c.light_of_code_in-green.ensures ∙ lent_code_light _ a.format a.g start.requires;
-      blue = c.light_of_code_in-blue.ensures ∙ lent_code_light _ a.format a.b start.requires;
+      red = c.light_of_code_in-red.ensures ∙ lent_code_light _ a.format a.r c.requires;
+      green = c.light_of_code_in-green.ensures ∙ lent_code_light _ a.format a.g c.requires;
+      blue = c.light_of_code_in-blue.ensures ∙ lent_code_light _ a.format a.b c.requires;
       position = c.code_position-position.ensures ∙ ap (code_position a.format) c.brightest_of.ensures;
     }

@@ -24,13 +24,12 @@ position D e f = rw (e, f) (omega (arith, narrow_position Ten D))
 pub returns : goal.returns
 unfolding brightest_position
 returns c =
-    let start = c in
-    let t = start.args.lights.now in
+    let t = c.args.lights.now in
     record {
-      red = light t _ start.requires c.ten_bit_above.ensures.0
+      red = light t _ c.requires c.ten_bit_above.ensures.0
           c.entry_in-red.ensures;
-      green = light t _ start.requires c.ten_bit_above-2.ensures.0
+      green = light t _ c.requires c.ten_bit_above-2.ensures.0
           c.entry_in-green.ensures;
-      blue = light t _ start.requires c.ten_bit_above-3.ensures.0 c.entry_in-blue.ensures;
+      blue = light t _ c.requires c.ten_bit_above-3.ensures.0 c.entry_in-blue.ensures;
       position = position _ c.ten_bit_above-4.ensures.0 c.brightest_of.ensures;
     }

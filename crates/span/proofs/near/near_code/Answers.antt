@@ -15,16 +15,14 @@ overflow_add-high c = omega (arith, room c.args.r c.args.g c.requires.1 c.requir
 
 pub returns-then-is_settled : goal.returns-then-is_settled
 returns-then-is_settled c =
-    let s = c in
     let settled = c.is_settled.ensures c.if-is_settled.true in
-    λ p y low high. hinted_code s.args.steps.now y s.args.r s.args.g _ _ _ s.requires.0 low high (omega arith) (omega arith) settled
+    λ p y low high. hinted_code c.args.steps.now y c.args.r c.args.g _ _ _ c.requires.0 low high (omega arith) (omega arith) settled
 
 pub returns-then-r-eq0 : goal.returns-then-r-eq0
 returns-then-r-eq0 c = λ p y low high. cc (code_black y)
 
 pub returns : goal.returns
 returns c =
-    let s = c in
     λ p y low high.
-    lent_code s.args.steps.now y s.args.r s.args.g _ _ _ s.requires.0 low high (omega arith) (omega arith)
+    lent_code c.args.steps.now y c.args.r c.args.g _ _ _ c.requires.0 low high (omega arith) (omega arith)
     (c.search_near.ensures p) (omega arith)
