@@ -74,7 +74,7 @@ def sections(text):
 
 def listed_crates():
     lines = (line.split("#")[0].strip() for line in read("crates.txt").splitlines())
-    return [line.split(":")[0].strip() for line in lines if line]
+    return [line.split(":")[0].split()[0] for line in lines if line]
 
 
 def edits_of(crate):
