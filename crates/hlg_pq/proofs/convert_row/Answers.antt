@@ -25,10 +25,11 @@ returns-in-Refused c =
     (e, refused_after _ _ _ _ (sym e ∙ c.in-Refused.is))
 
 pub returns : goal.returns
-returns c = (
-  sym (converted (goal.at.returns c).In_default),
-  converted_after pq_codes _ _ _ _ _ _ (converted (goal.at.returns c).In_default) (tested (goal.at.returns c).In_default) (omega arith) c.convert_span.ensures,
-)
+returns c =
+    let taken = (goal.at.returns c).In_default in (
+      sym (converted taken),
+      converted_after pq_codes _ _ _ _ _ _ (converted taken) (tested taken) (omega arith) c.convert_span.ensures,
+    )
 
 pub overflow_mul-from : goal.overflow_mul-from
 overflow_mul-from c = let k = tested (goal.at.overflow_mul-from c).In_default in omega arith

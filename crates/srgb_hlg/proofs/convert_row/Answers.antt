@@ -25,9 +25,10 @@ returns-in-Refused c =
 
 pub returns : goal.returns
 returns c =
-    let row = c.args.row.now in (
-      sym (converted (goal.at.returns c).In_default),
-      converted_after pixel 0 caption_codes row _ _ _ _ _ (converted (goal.at.returns c).In_default) (tested (goal.at.returns c).In_default) (omega arith) c.convert_span.ensures,
+    let row = c.args.row.now in
+    let taken = (goal.at.returns c).In_default in (
+      sym (converted taken),
+      converted_after pixel 0 caption_codes row _ _ _ _ _ (converted taken) (tested taken) (omega arith) c.convert_span.ensures,
     )
 
 pub overflow_mul-at : goal.overflow_mul-at
