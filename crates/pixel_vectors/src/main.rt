@@ -5,11 +5,11 @@
 
 ghost use Rattle.std.specs.Prelude.{◌≤◌};
 
-use libc::{STDIN_FILENO, STDOUT_FILENO};
 use pq_hlg::{convert_codes, convert_pixel};
 use quantity::Source;
 use quantity::sample_format::format_of;
 use rows::PixelAnswer;
+use std::io::Read;
 
 fn widen(byte: u8) -> u64 {
     byte as u64
@@ -29,31 +29,32 @@ fn number_at(question: &[u8; 33], place: usize) -> u64
 }
 
 // A number and the byte that follows it; whether both were written.
-fn print_number(number: u64, after: u8) -> bool {
-    if io::print_decimal(STDOUT_FILENO, number) {
-        return io::write_all(STDOUT_FILENO, &[after]);
+fn print_number(output: &impl Print, number: u64, after: u8) -> bool {
+    if output.print(number).is_ok() {
+        return output.write_all(&[after]).is_ok();
     }
     false
 }
 
-fn print_answer(answer: PixelAnswer) -> bool {
+fn print_answer(output: &impl Print, answer: PixelAnswer) -> bool {
     match answer {
         PixelAnswer::Codes(red, green, blue) => {
-            print_number(red, b' ') && print_number(green, b' ') && print_number(blue, b'\n')
+            print_number(output, red, b' ')
+                && print_number(output, green, b' ')
+                && print_number(output, blue, b'\n')
         }
         PixelAnswer::Refused(number, place) => {
-            io::write_all(STDOUT_FILENO, b"refused ")
-                && print_number(number, b' ')
-                && print_number(place, b'\n')
+            output.write_all(b"refused ").is_ok()
+                && print_number(output, number, b' ')
+                && print_number(output, place, b'\n')
         }
     }
 }
 
 // One question and its answer; false at the end of the input, which may cut a question short, and after a failed write.
-fn answer_next() -> bool {
+fn answer_next(input: &mut impl Read, output: &impl Print) -> bool {
     let mut question = [0u8; 33];
-    let got = io::read_full(STDIN_FILENO, &mut question);
-    if got != 33 {
+    if input.read_exact(&mut question).is_err() {
         return false;
     }
     let red = number_at(&question, 9);
@@ -61,19 +62,20 @@ fn answer_next() -> bool {
     let blue = number_at(&question, 25);
     let call = widen(question[0]);
     if call % 8 == 1 {
-        return print_answer(convert_codes(red, green, blue));
+        return print_answer(output, convert_codes(red, green, blue));
     }
     let source = Source {
         peak: number_at(&question, 1),
         format: format_of(call),
     };
-    print_answer(convert_pixel(source, red, green, blue))
+    print_answer(output, convert_pixel(source, red, green, blue))
 }
 
-fn main() {
+fn main(rt: HostRuntime) {
+    let mut input = rt.stdin();
     // more than are stored: the limit is there so that the loop ends on any input
     let mut questions: u64 = 1000000;
-    while questions > 0 && answer_next() {
+    while questions > 0 && answer_next(&mut input, &rt) {
         questions -= 1;
     }
 }
