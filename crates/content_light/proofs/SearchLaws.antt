@@ -2,18 +2,22 @@
 use mathlib.Core.Path.{◌≡◌, refl, sym, ap, subst, ◌∙◌}
 use mathlib.Core.Bool.{Bool, true, false}
 use mathlib.Core.Logic.{◌⊎◌, inl, inr}
-use Prim.Native.Nat.{ℕ, zero, suc, min, ◌+◌, ◌-◌, ◌≤◌, ◌<◌}
+use mathlib.Core.List.{List}
+use Prim.Native.Nat.{ℕ, zero, suc, min, ◌+◌, ◌-◌, ◌/◌, ◌≤◌, ◌<◌}
+use native.Mathlib.Decide.{dec_le}
 use native.Mathlib.Omega.{arith}
 use lib.Dec.{eqb}
+use lib.ListN.{length}
 use borrow.Author.Tests.{eqb-true, eqb-false}
 use Rattle.quantity.specs.Component.{brightest}
+use Rattle.quantity.specs.declared.sample_format.SampleFormat.{SampleFormat}
 use Rattle.position.specs.Position.{light_at}
 use Rattle.position.specs.Code.{code_position}
 use Rattle.pixel.specs.Conversion.{brightest_position}
 use Rattle.rows.specs.Row.{pixel_at}
 use Rattle.rows.proofs.AnswerLaws.{neither}
 use Rattle.content_light.specs.declared.RunRecord.{RunRecord}
-use Rattle.content_light.specs.Peak.{CodedRow}
+use Rattle.content_light.specs.Peak.{CodedRow, row_in, outshines}
 use Rattle.content_light.specs.Run.{most_pixels, takes_over, with_pixel, position_of, with_pixels}
 use Rattle.content_light.specs.Bounds.{Bounded, LastReaching}
 use Rattle.content_light.proofs.OutshinesLaws.{outshines_le, equal_taken, as_bright, dimmer_still}
@@ -132,3 +136,18 @@ module _ (r : RunRecord) (row : CodedRow) where
         go : ((n ≡ 0) × (most ≡ 0)) ⊎ ((j : ℕ) × (j < n) × (brightest (pixel_at row.bytes j) ≡ most)) → r ≡ with_pixels r row n
         go (inl (z, y)) = rw z
         go (inr (j, h, y)) = absurd (equal_taken _ (rw y at (last.others j (omega arith) h)))
+
+-- no pixel of a row from count on
+abbrev pub Behind : SampleFormat → List ℕ → ℕ → ℕ → Type 0
+Behind format row m count =
+    (j : ℕ) → count ≤ j → j < length row / 6 → outshines (light_at (position_of (row_in format row) j)) (light_at m) ≡ false
+
+pub next_behind : (format : SampleFormat) (row : List ℕ) (m count : ℕ) → Behind format row m count
+    → outshines (light_at (position_of (row_in format row) (count - 1))) (light_at m) ≡ false → Behind format row m (count - 1)
+next_behind format row m count behind here j h k = go (dec_le count j)
+  where
+    go : Dec (count ≤ j) → outshines (light_at (position_of (row_in format row) j)) (light_at m) ≡ false
+    go (yes l) = behind j l k
+    go (no l) =
+        let e : count - 1 ≡ j = omega arith in
+        subst (λ (i : ℕ). outshines (light_at (position_of (row_in format row) i)) (light_at m) ≡ false) e here
