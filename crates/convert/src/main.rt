@@ -4,6 +4,6 @@
 use converted_title::convert_title;
 use title::MOST_ROWS;
 
-fn main() {
-    convert_title(MOST_ROWS);
+fn main(rt: HostRuntime) {
+    convert_title(&mut rt.stdin(), &mut rt.stdout(), &mut rt.stderr(), MOST_ROWS);
 }

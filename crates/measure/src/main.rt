@@ -4,6 +4,6 @@
 use measured_title::measure_title;
 use title::MOST_ROWS;
 
-fn main() {
-    measure_title(MOST_ROWS);
+fn main(rt: HostRuntime) {
+    measure_title(&mut rt.stdin(), &mut rt.stdout(), &mut rt.stderr(), MOST_ROWS);
 }

@@ -3,6 +3,6 @@
 
 use measured_title::measure_title;
 
-fn main() {
-    measure_title(2);
+fn main(rt: HostRuntime) {
+    measure_title(&mut rt.stdin(), &mut rt.stdout(), &mut rt.stderr(), 2);
 }

@@ -9,38 +9,70 @@ ghost use Rattle.std.specs.Prelude.{◌≤◌};
 use content_light::{RunRecord, fresh_record};
 use next_row::{NextRow, list_peak, measure_next_row};
 use quantity::sample_format::SampleFormat;
+use std::io::{Read, Write};
 use title::opening::Opening;
 use title::streams::{open_title, print_refusal, read_input, write_output};
 
-// Measures the title on standard input, of which at most so many rows are read, and prints its line on standard output. Of what the title's card
-// declares, the peak is not used.
-pub fn measure_title(limit: u64) {
+// Measures the title on the input, of which at most so many rows are read, and prints its line on the output; a read that fails is told where errors are. Of
+// what the title's card declares, the peak is not used.
+pub fn measure_title<R: Read, W: Write, E: Write>(
+    input: &mut R,
+    output: &mut W,
+    errors: &mut E,
+    limit: u64,
+) {
     let program = b"measure";
-    let opening = open_title(program);
+    let opening = open_title(input, errors, program);
     match opening {
         Opening::Rows(source, width) => {
             let format = source.format;
-            measure_rows(program, limit, format, width)
+            measure_rows(input, output, errors, program, limit, format, width)
         }
-        Opening::Refused(number) => print_refusal(number),
+        Opening::Refused(number) => print_refusal(output, number),
     }
 }
 
 // One row of the widest title is all that is held at a time.
-fn measure_rows(program: &[u8], limit: u64, format: SampleFormat, width: usize)
+fn measure_rows<R: Read, W: Write, E: Write>(
+    input: &mut R,
+    output: &mut W,
+    errors: &mut E,
+    program: &[u8],
+    limit: u64,
+    format: SampleFormat,
+    width: usize,
+)
     requires { width ≤ 8192 }
 {
     let mut row = [0u8; 49152];
     let bytes = 6 * width;
-    print_line(program, limit, format, width, &mut row[..bytes]);
+    print_line(
+        input,
+        output,
+        errors,
+        program,
+        limit,
+        format,
+        width,
+        &mut row[..bytes],
+    );
 }
 
 // Reads row after row until one is refused or there is none, and prints the title's line.
-fn print_line(program: &[u8], limit: u64, format: SampleFormat, width: usize, row: &mut [u8]) {
+fn print_line<R: Read, W: Write, E: Write>(
+    input: &mut R,
+    output: &mut W,
+    errors: &mut E,
+    program: &[u8],
+    limit: u64,
+    format: SampleFormat,
+    width: usize,
+    row: &mut [u8],
+) {
     let mut run = fresh_record();
     let mut left = limit;
     while 0 < left {
-        let got = read_input(program, row);
+        let got = read_input(input, errors, program, row);
         let next = measure_next_row(run, format, width, &row[..got]);
         match next {
             NextRow::Measured(longer) => {
@@ -48,7 +80,7 @@ fn print_line(program: &[u8], limit: u64, format: SampleFormat, width: usize, ro
                 left -= 1;
             }
             NextRow::Refused(number) => {
-                print_refusal(number);
+                print_refusal(output, number);
                 return;
             }
             NextRow::End => {
@@ -56,12 +88,12 @@ fn print_line(program: &[u8], limit: u64, format: SampleFormat, width: usize, ro
             }
         }
     }
-    print_peak(run);
+    print_peak(output, run);
 }
 
-// The line of a run's result on standard output.
-fn print_peak(run: RunRecord) {
+// The line of a run's result on the output.
+fn print_peak<W: Write>(output: &mut W, run: RunRecord) {
     let mut text = [0u8; 63];
     let n = list_peak(run, &mut text);
-    write_output(&text[..n]);
+    write_output(output, &text[..n]);
 }

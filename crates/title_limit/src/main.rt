@@ -3,6 +3,6 @@
 
 use converted_title::convert_title;
 
-fn main() {
-    convert_title(2);
+fn main(rt: HostRuntime) {
+    convert_title(&mut rt.stdin(), &mut rt.stdout(), &mut rt.stderr(), 2);
 }
