@@ -1,4 +1,4 @@
--- Rows whose samples each come from one element of a list, three to a pixel, whatever the elements are (floats in request 11): the pixels of such a row, its
+-- Rows whose samples each come from one element of a list, three to a pixel, whatever the elements are (bytes in request 13): the pixels of such a row, its
 -- destination of two bytes to an element, and the tests of a span that look at no element. Elements and pixels are counted from 0 at the row's start.
 use Rattle.std.specs.Prelude.{ℕ, ◌+◌, ◌*◌, ◌/◌, ◌%◌, min, Bool, cond, not, ◌||◌, List, length, ◌==◌, nat_lt, slice_index_or}
 use Rattle.quantity.specs.Component.{Pixel}
