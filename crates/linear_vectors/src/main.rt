@@ -6,10 +6,10 @@
 ghost use Rattle.std.specs.Prelude.{◌≤◌, ◌<◌};
 
 use big_endian::{byte_at, number_at};
-use libc::{STDIN_FILENO, STDOUT_FILENO};
 use linear_light::{ClassAnswer, LightClass, LinearPixel, class_of_value, light_of_value};
 use pq_hlg::linear::convert_linear_pixel;
 use rows::PixelAnswer;
+use std::io::Read;
 
 // The value of a bit pattern; where the pattern stands for no number, none.
 fn value_of(bits: u32) -> f32 {
@@ -36,40 +36,41 @@ fn pattern_at(question: &[u8], place: usize) -> f32
 }
 
 // A number and the byte that follows it; whether both were written.
-fn print_number(number: u64, after: u8) -> bool {
-    if io::print_decimal(STDOUT_FILENO, number) {
-        return io::write_all(STDOUT_FILENO, &[after]);
+fn print_number(output: &impl Print, number: u64, after: u8) -> bool {
+    if output.print(number).is_ok() {
+        return output.write_all(&[after]).is_ok();
     }
     false
 }
 
-fn print_refusal(number: u64, place: u64) -> bool {
-    io::write_all(STDOUT_FILENO, b"refused ")
-        && print_number(number, b' ')
-        && print_number(place, b'\n')
+fn print_refusal(output: &impl Print, number: u64, place: u64) -> bool {
+    output.write_all(b"refused ").is_ok()
+        && print_number(output, number, b' ')
+        && print_number(output, place, b'\n')
 }
 
-fn print_light(x: f32) -> bool {
+fn print_light(output: &impl Print, x: f32) -> bool {
     let light = light_of_value(x);
-    print_number(bits_of(x) as u64, b' ') && print_number(light.0, b'\n')
+    print_number(output, bits_of(x) as u64, b' ') && print_number(output, light.0, b'\n')
 }
 
-fn print_class(class: LightClass) -> bool {
+fn print_class(output: &impl Print, class: LightClass) -> bool {
     match class {
-        LightClass::Light(x) => io::write_all(STDOUT_FILENO, b"light ") && print_light(x),
-        LightClass::Negative(x) => io::write_all(STDOUT_FILENO, b"negative ") && print_light(x),
-        LightClass::TooBright(x) => io::write_all(STDOUT_FILENO, b"too bright ") && print_light(x),
+        LightClass::Light(x) => output.write_all(b"light ").is_ok() && print_light(output, x),
+        LightClass::Negative(x) => output.write_all(b"negative ").is_ok() && print_light(output, x),
+        LightClass::TooBright(x) => output.write_all(b"too bright ").is_ok()
+            && print_light(output, x),
     }
 }
 
-fn answer_value(x: f32) -> bool {
+fn answer_value(output: &impl Print, x: f32) -> bool {
     match class_of_value(x) {
-        ClassAnswer::Classed(class) => print_class(class),
-        ClassAnswer::Refused(number, place) => print_refusal(number, place),
+        ClassAnswer::Classed(class) => print_class(output, class),
+        ClassAnswer::Refused(number, place) => print_refusal(output, number, place),
     }
 }
 
-fn answer_pixel(peak: u64, red: f32, green: f32, blue: f32) -> bool {
+fn answer_pixel(output: &impl Print, peak: u64, red: f32, green: f32, blue: f32) -> bool {
     let pixel = LinearPixel {
         red: red,
         green: green,
@@ -77,34 +78,36 @@ fn answer_pixel(peak: u64, red: f32, green: f32, blue: f32) -> bool {
     };
     match convert_linear_pixel(peak, pixel) {
         PixelAnswer::Codes(r, g, b) => {
-            print_number(r, b' ') && print_number(g, b' ') && print_number(b, b'\n')
+            print_number(output, r, b' ')
+                && print_number(output, g, b' ')
+                && print_number(output, b, b'\n')
         }
-        PixelAnswer::Refused(number, place) => print_refusal(number, place),
+        PixelAnswer::Refused(number, place) => print_refusal(output, number, place),
     }
 }
 
 // One question and its answer; false at the end of the input, which may cut a question short, and after a failed write.
-fn answer_next() -> bool {
+fn answer_next(input: &mut impl Read, output: &impl Print) -> bool {
     let mut question = [0u8; 21];
-    let got = io::read_full(STDIN_FILENO, &mut question);
-    if got != 21 {
+    if input.read_exact(&mut question).is_err() {
         return false;
     }
     let red = pattern_at(&question, 1);
     if byte_at(&question, 0) == 0 {
-        return answer_value(red);
+        return answer_value(output, red);
     }
     let green = pattern_at(&question, 5);
     let blue = pattern_at(&question, 9);
     let high = number_at(&question, 13) << 16 | number_at(&question, 15);
     let low = number_at(&question, 17) << 16 | number_at(&question, 19);
-    answer_pixel(high << 32 | low, red, green, blue)
+    answer_pixel(output, high << 32 | low, red, green, blue)
 }
 
-fn main() {
+fn main(rt: HostRuntime) {
+    let mut input = rt.stdin();
     // more than are stored: the limit is there so that the loop ends on any input
     let mut questions: u64 = 1000000;
-    while questions > 0 && answer_next() {
+    while questions > 0 && answer_next(&mut input, &rt) {
         questions -= 1;
     }
 }

@@ -7,9 +7,9 @@ ghost use Rattle.std.specs.Prelude.{◌≤◌};
 
 use big_endian::{byte_at, number_at};
 use content_light::{PeakAnswer, RecordAnswer, RunRecord, measure_row, measured_peak};
-use libc::{STDIN_FILENO, STDOUT_FILENO};
 use quantity::Position;
 use quantity::sample_format::format_of;
+use std::io::Read;
 
 // The 8-byte number that starts at a place of a question.
 fn wide_number_at(question: &[u8], place: usize) -> u64
@@ -21,51 +21,50 @@ fn wide_number_at(question: &[u8], place: usize) -> u64
 }
 
 // A number and the byte that follows it; whether both were written.
-fn print_number(number: u64, after: u8) -> bool {
-    if io::print_decimal(STDOUT_FILENO, number) {
-        return io::write_all(STDOUT_FILENO, &[after]);
+fn print_number(output: &impl Print, number: u64, after: u8) -> bool {
+    if output.print(number).is_ok() {
+        return output.write_all(&[after]).is_ok();
     }
     false
 }
 
-fn print_record(answer: RecordAnswer) -> bool {
+fn print_record(output: &impl Print, answer: RecordAnswer) -> bool {
     match answer {
         RecordAnswer::Measured(run) => {
             let position = run.position;
-            print_number(run.rows, b' ')
-                && print_number(run.pixels, b' ')
-                && print_number(position.0, b' ')
-                && print_number(run.row, b' ')
-                && print_number(run.pixel, b' ')
+            print_number(output, run.rows, b' ')
+                && print_number(output, run.pixels, b' ')
+                && print_number(output, position.0, b' ')
+                && print_number(output, run.row, b' ')
+                && print_number(output, run.pixel, b' ')
         }
         RecordAnswer::Refused(number, place) => {
-            io::write_all(STDOUT_FILENO, b"refused ")
-                && print_number(number, b' ')
-                && print_number(place, b' ')
+            output.write_all(b"refused ").is_ok()
+                && print_number(output, number, b' ')
+                && print_number(output, place, b' ')
         }
     }
 }
 
-fn print_peak(answer: PeakAnswer) -> bool {
+fn print_peak(output: &impl Print, answer: PeakAnswer) -> bool {
     match answer {
         PeakAnswer::Peak(peak, row, pixel) => {
-            io::write_all(STDOUT_FILENO, b": ")
-                && print_number(peak, b' ')
-                && print_number(row, b' ')
-                && print_number(pixel, b'\n')
+            output.write_all(b": ").is_ok()
+                && print_number(output, peak, b' ')
+                && print_number(output, row, b' ')
+                && print_number(output, pixel, b'\n')
         }
         PeakAnswer::Refused(number) => {
-            io::write_all(STDOUT_FILENO, b": refused ") && print_number(number, b'\n')
+            output.write_all(b": refused ").is_ok() && print_number(output, number, b'\n')
         }
     }
 }
 
 // One question and its answer; false at the end of the input, which may cut a question short, for a row that is longer than the buffer, and after a
 // failed write.
-fn answer_next() -> bool {
+fn answer_next(input: &mut impl Read, output: &impl Print) -> bool {
     let mut question = [0u8; 43];
-    let got = io::read_full(STDIN_FILENO, &mut question);
-    if got != 43 {
+    if input.read_exact(&mut question).is_err() {
         return false;
     }
     // the longest row, and one pixel more
@@ -74,12 +73,11 @@ fn answer_next() -> bool {
     if 49158 < bytes {
         return false;
     }
-    answer(&question, &mut row[..bytes])
+    answer(input, output, &question, &mut row[..bytes])
 }
 
-fn answer(question: &[u8], row: &mut [u8]) -> bool {
-    let got = io::read_full(STDIN_FILENO, row);
-    if got != row.len() {
+fn answer(input: &mut impl Read, output: &impl Print, question: &[u8], row: &mut [u8]) -> bool {
+    if input.read_exact(row).is_err() {
         return false;
     }
     let run = RunRecord {
@@ -90,13 +88,14 @@ fn answer(question: &[u8], row: &mut [u8]) -> bool {
         pixel: wide_number_at(question, 33),
     };
     let format = format_of(byte_at(question, 0));
-    print_record(measure_row(run, format, row)) && print_peak(measured_peak(run))
+    print_record(output, measure_row(run, format, row)) && print_peak(output, measured_peak(run))
 }
 
-fn main() {
+fn main(rt: HostRuntime) {
+    let mut input = rt.stdin();
     // more than are stored: the limit is there so that the loop ends on any input
     let mut questions: u64 = 1000000;
-    while questions > 0 && answer_next() {
+    while questions > 0 && answer_next(&mut input, &rt) {
         questions -= 1;
     }
 }

@@ -5,10 +5,8 @@ use Prim.Native.Nat.{ℕ, ◌%◌, ◌/◌}
 use native.Mathlib.Omega.{arith}
 use lib.Dec.{T, eqb}
 use lib.Ieee.{nan_bits}
-use borrow.Author.Rules.{rules}
 use borrow.Author.Tests.{eqb-true, eqb-false}
-use Rattle.linear_vectors.proofs.value_of.Statement.{statement}
-use Rattle.linear_vectors.proofs.value_of.Tie as tie
+use Rattle.linear_vectors.proofs.value_of.Goals as goal
 
 -- either the exponent is not all ones, or no digit stands
 number : (a b : Bool) (n m : ℕ) → eqb n 255 ≡ a → eqb m 0 ≡ b → (n ≡ 255 → m ≡ 0) → T (not (a && not b))
@@ -16,11 +14,8 @@ number false b n m e f h = tt
 number true true n m e f h = tt
 number true false n m e f h = absurd (eqb-false m 0 f (h (eqb-true n 255 e)))
 
-float_from_bits_result : tie.Need-float-from-bits-result
+pub float_from_bits-result : goal.float_from_bits-result
 unfolding nan_bits
-float_from_bits_result c =
-    let b = c.before.args.bits in
+float_from_bits-result c =
+    let b = c.args.bits in
     number (eqb (b % 2147483648 / 8388608) 255) (eqb (b % 8388608) 0) (b % 2147483648 / 8388608) (b % 8388608) refl refl (λ h. omega arith)
-
-pub value_of_spec : {M : Type 1} → statement M
-value_of_spec = tie.close (tie.spec (λ c. search rules) float_from_bits_result (λ c. search rules))
