@@ -3,46 +3,46 @@
 #![tactic(auto)]
 
 use hlg::Codes;
-use libc::{STDIN_FILENO, STDOUT_FILENO};
 use srgb::light_of_value;
 use srgb_hlg::convert_pixel;
+use std::io::Read;
 
 // A number and the byte that follows it; whether both were written.
-fn print_number(number: u64, after: u8) -> bool {
-    if io::print_decimal(STDOUT_FILENO, number) {
-        return io::write_all(STDOUT_FILENO, &[after]);
+fn print_number(output: &impl Print, number: u64, after: u8) -> bool {
+    if output.print(number).is_ok() {
+        return output.write_all(&[after]).is_ok();
     }
     false
 }
 
-fn print_codes(codes: Codes) -> bool {
-    print_number(codes.red, b' ')
-        && print_number(codes.green, b' ')
-        && print_number(codes.blue, b'\n')
+fn print_codes(output: &impl Print, codes: Codes) -> bool {
+    print_number(output, codes.red, b' ')
+        && print_number(output, codes.green, b' ')
+        && print_number(output, codes.blue, b'\n')
 }
 
-fn answer(call: u8, red: u8, green: u8, blue: u8) -> bool {
+fn answer(output: &impl Print, call: u8, red: u8, green: u8, blue: u8) -> bool {
     if call == 0 {
         let light = light_of_value(red);
-        return print_number(light.0, b'\n');
+        return print_number(output, light.0, b'\n');
     }
-    print_codes(convert_pixel(red, green, blue))
+    print_codes(output, convert_pixel(red, green, blue))
 }
 
 // One question and its answer; false at the end of the input, which may cut a question short, and after a failed write.
-fn answer_next() -> bool {
+fn answer_next(input: &mut impl Read, output: &impl Print) -> bool {
     let mut question = [0u8; 4];
-    let got = io::read_full(STDIN_FILENO, &mut question);
-    if got != 4 {
+    if input.read_exact(&mut question).is_err() {
         return false;
     }
-    answer(question[0], question[1], question[2], question[3])
+    answer(output, question[0], question[1], question[2], question[3])
 }
 
-fn main() {
+fn main(rt: HostRuntime) {
+    let mut input = rt.stdin();
     // more than are stored: the limit is there so that the loop ends on any input
     let mut questions: u64 = 1000000;
-    while questions > 0 && answer_next() {
+    while questions > 0 && answer_next(&mut input, &rt) {
         questions -= 1;
     }
 }
