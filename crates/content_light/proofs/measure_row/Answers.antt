@@ -32,7 +32,9 @@ returns-then-refuses_length c =
     (sym c.refuses_length.ensures ∙ c.if-refuses_length.true)
 
 pub first_untaken-i-requires : goal.first_untaken-i-requires
-first_untaken-i-requires c = ((length_taken _ (length_passed (goal.at.first_untaken-i-requires c).After-sample_bounds-bounds)).0, c.sample_bounds-bounds.ensures)
+first_untaken-i-requires c =
+    let b = (goal.at.first_untaken-i-requires c).After-sample_bounds-bounds in
+    ((length_taken _ (length_passed b)).0, c.sample_bounds-bounds.ensures)
 
 pub returns-then-i-row : goal.returns-then-i-row
 returns-then-i-row c =

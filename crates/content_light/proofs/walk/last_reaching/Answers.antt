@@ -26,7 +26,8 @@ by_pixel c =
 pub returns-then-outshines : goal.returns-then-outshines
 returns-then-outshines c =
     let loop = c.loop-count in
-    record { within = loop.invariant.0; reaches = λ h. by_pixel (goal.at.returns-then-outshines c).After-outshines ∙ c.if-outshines.true; others = loop.invariant.1 }
+    let tested = by_pixel (goal.at.returns-then-outshines c).After-outshines in
+    record { within = loop.invariant.0; reaches = λ h. tested ∙ c.if-outshines.true; others = loop.invariant.1 }
 
 pub loop-count-preserved : goal.loop-count-preserved
 loop-count-preserved c =
