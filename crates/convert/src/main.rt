@@ -5,5 +5,10 @@ use converted_title::convert_title;
 use title::MOST_ROWS;
 
 fn main(rt: HostRuntime) {
-    convert_title(&mut rt.stdin(), &mut rt.stdout(), &mut rt.stderr(), MOST_ROWS);
+    convert_title(
+        &mut rt.stdin(),
+        &mut rt.stdout(),
+        &mut rt.stderr(),
+        MOST_ROWS,
+    );
 }

@@ -5,5 +5,10 @@ use measured_title::measure_title;
 use title::MOST_ROWS;
 
 fn main(rt: HostRuntime) {
-    measure_title(&mut rt.stdin(), &mut rt.stdout(), &mut rt.stderr(), MOST_ROWS);
+    measure_title(
+        &mut rt.stdin(),
+        &mut rt.stdout(),
+        &mut rt.stderr(),
+        MOST_ROWS,
+    );
 }
