@@ -20,13 +20,6 @@ walked k c h t i from to =
     let x = place_tested first_in one k c h t (point_at i / 256) i from to (omega arith) (omega arith) in
     one→ _ _ x.a x.s x.b x.i i x.passed
 
-point : (i : ℕ) → 256 * first_point_cell ≤ point_at i → point_at i < 256 * (last_point_cell + 1) → Point (light_at (point_at i)) (point_at i)
-point i from to = go (dec_le middle_cell (point_at i / 256))
-  where
-    go : Dec (middle_cell ≤ point_at i / 256) → Point (light_at (point_at i)) (point_at i)
-    go (yes h) = walked middle_cell (last_point_cell + 2 - middle_cell) (lit≤ tt) points_above i h (omega arith)
-    go (no h) = walked first_point_cell (middle_cell + 1 - first_point_cell) (lit≤ tt) points_below i (omega arith) (omega arith)
-
 -- the last point before a position q, and the first one after it
 abbrev pub point_before : ℕ → ℕ
 point_before q = point_at ((q - 1) / points_apart)
@@ -45,3 +38,10 @@ held q from to =
       below = at_most_signal_lem (point ((q - 1) / points_apart) (omega arith) (omega arith)).high (record { cross = omega arith });
       above = at_least_signal (point (q / points_apart + 1) (omega arith) (omega arith)).low (record { cross = omega arith });
     }
+  where
+    point : (i : ℕ) → 256 * first_point_cell ≤ point_at i → point_at i < 256 * (last_point_cell + 1) → Point (light_at (point_at i)) (point_at i)
+    point i from to = go (dec_le middle_cell (point_at i / 256))
+      where
+        go : Dec (middle_cell ≤ point_at i / 256) → Point (light_at (point_at i)) (point_at i)
+        go (yes h) = walked middle_cell (last_point_cell + 2 - middle_cell) (lit≤ tt) points_above i h (omega arith)
+        go (no h) = walked first_point_cell (middle_cell + 1 - first_point_cell) (lit≤ tt) points_below i (omega arith) (omega arith)

@@ -1,5 +1,6 @@
 pub mod CardLaws
 pub mod ZeroFieldLaws
 pub mod PeakOrderLaws
+pub mod PeakOrderTheorems
 pub mod NoPeakLaws
 pub mod RewritingLaws
