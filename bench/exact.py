@@ -4,7 +4,8 @@
 
 The static library hands only rows on, so each tree's crates are copied to a temporary folder with one crate more, which hands
 `hlg_codes` on to C and is proved and built there; what a tree has proved already is not proved again. Each line that is printed
-has one figure a tree, this one's first; no time is asserted.
+has one figure a tree, this one's first; no time is asserted. A tree whose `hlg_codes` takes the lights one by one needs the
+bench/exact.py of its own.
 """
 
 import shutil
@@ -20,17 +21,20 @@ SOURCE = """// The exact codes of three mapped components, for C to time.
 
 use hlg::hlg_codes;
 use hlg_steps::step_of;
-use quantity::DisplayLight;
-use std::num::wrapping_add_u64;
+use quantity::{DisplayLight, Rgb};
 
 // The sum of the three codes.
 #[unsafe(no_mangle)]
 pub extern "C" fn exact_codes(red: u64, green: u64, blue: u64) -> u64 {
-    let codes = hlg_codes(DisplayLight(red), DisplayLight(green), DisplayLight(blue));
-    wrapping_add_u64(codes.red, wrapping_add_u64(codes.green, codes.blue))
+    let codes = hlg_codes(Rgb {
+        red: DisplayLight(red),
+        green: DisplayLight(green),
+        blue: DisplayLight(blue),
+    });
+    codes.red.wrapping_add(codes.green).wrapping_add(codes.blue)
 }
 
-// A step, for which the table is filled.
+// A step.
 #[unsafe(no_mangle)]
 pub extern "C" fn exact_step(code: u64) -> u64 {
     step_of(code).0

@@ -45,8 +45,8 @@ CONSTANTS = {
     "eetf/src/lib.rt": (1_000, THOUSAND_POSITION, 674_504, 27),
     "position/src/lib.rt": (256,),
     "quantity/src/lib.rt": (UNITS, THOUSAND, LAST_POSITION),
-    "srgb_hlg/src/hints.rt": (64, 65, 1_298, 1_000),
-    "srgb_hlg/src/code.rt": (64, 953),
+    "srgb_hlg/src/hints.rt": (64, 65, 953),
+    "srgb_hlg/src/code.rt": (64,),
 }
 
 LIGHTS = light_table.light_table()
@@ -268,8 +268,8 @@ class CaptionReplay:
     def __init__(self):
         self.hints, self.lights = srgb_hints.made(), [srgb_lights.light(v) for v in range(256)]
         self.spread = constants_of("srgb_hlg/src/code.rt")["SPREAD"]
-        self.scene, shares = (constants_of(f"srgb_hlg/src/{name}.rt") for name in ("scene", "span"))
-        self.weights = [shares[f"{name}_WEIGHTS"] for name in ("RED", "GREEN", "BLUE")]
+        self.scene = constants_of("srgb_hlg/src/scene.rt")
+        self.weights = [self.scene[name][3:] for name in ("RED", "GREEN", "BLUE")]  # after the shares
         self.seen = Counter()
 
     # hints.rt
@@ -277,7 +277,7 @@ class CaptionReplay:
     def reached_hint(self, light):
         z = leading_zeros(light)
         place = self.hints[z + 65] + (light >> self.hints[z] % 64)
-        return self.hints[place] if place < 1_298 else 1_000
+        return self.hints[place] if place < len(self.hints) and self.hints[place] <= 953 else None
 
     # scene.rt
 
@@ -288,15 +288,12 @@ class CaptionReplay:
 
     def guess(self, light):
         hint = self.reached_hint(light)
-        return 0 if hint > 953 else hint + (STEPS[hint] <= light)
+        return 0 if hint is None else hint + (STEPS[hint] <= light)
 
     def near_code(self, low):
         reached = self.guess(low)
-        if reached == 0:
-            return 64 if low + self.spread < STEPS[0] else 0
-        if low < STEPS[reached - 1] or STEPS[reached] <= low + self.spread:
-            return 0
-        return 64 + reached
+        settled = (reached == 0 or STEPS[reached - 1] <= low) and low + self.spread < STEPS[reached]
+        return 64 + reached if settled else None
 
     # span.rt
 
@@ -312,8 +309,8 @@ class CaptionReplay:
             codes = [self.near_code(self.lower_light(weights, lights)) for weights in self.weights]
             for code, true_code in zip(codes, srgb.convert_pixel(pixel)):
                 self.seen["codes"] += 1
-                self.seen["halved"] += code == 0
-                if code not in (0, true_code):
+                self.seen["halved"] += code is None
+                if code not in (None, true_code):
                     raise SystemExit(f"sRGB, pixel {pixel}: the replay found {codes}")
 
 

@@ -50,8 +50,8 @@ extern "C" {
 
    A pointer may be null only where its length is 0, and needs no alignment. row and dst must not overlap. The library has no
    global state and no heap: nothing is kept between calls, and calls may run at the same time, also on one row, as long as no
-   call's dst overlaps a row or dst of another. An accepted call, this or the next, uses 56.7 KiB of stack, measured on the
-   compiled library by tests/host/stack.c, and the tests allow 72 KiB at most. The library needs memset and memcpy from outside. */
+   call's dst overlaps a row or dst of another. An accepted call, this or the next, uses 1.7 KiB of stack, measured on the
+   compiled library by tests/host/stack.c, and the tests allow 72 KiB at most. The library needs memset from outside. */
 uint64_t pq_hlg_convert_row(uint64_t peak, uint64_t format,
                             const uint8_t *row, size_t row_len,
                             uint8_t *dst, size_t dst_len,
@@ -81,7 +81,7 @@ uint64_t pq_hlg_convert_row_ycbcr(uint64_t peak, uint64_t format,
      16  the span has a value that is infinite or not a number; the place says which one comes first, 0 being the row's first float
    The place is 0 for all but 16. Values outside the span are not looked at.
 
-   row lies as floats must, at a multiple of 4 bytes. An accepted call uses 56.6 KiB of stack. All else is as for
+   row lies as floats must, at a multiple of 4 bytes. An accepted call uses 1.5 KiB of stack. All else is as for
    pq_hlg_convert_row. */
 uint64_t pq_hlg_convert_row_linear(uint64_t peak,
                                    const float *row, size_t row_len,

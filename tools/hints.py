@@ -111,7 +111,7 @@ def entries():
 def table(name, comment, hints):
     """The lines of a file: what the entries of an array are, and the array."""
     yield from comment
-    yield f"pub const {name}: [u64; {len(hints)}] = ["
+    yield f"pub static {name}: [u64; {len(hints)}] = ["
     for h in hints:
         yield f"    {h},"
     yield "];"

@@ -83,7 +83,7 @@ def grouped(n):
 def source(steps):
     yield "// Made by `python3 tools/hlg_steps.py source`. Entry d - 65 is the step T[d] of the HLG code d: the smallest scene light whose signal"
     yield f"// rounds to d or more, in 1/2^40 of the nominal range. {len(steps)} entries from {grouped(steps[0])} to {grouped(steps[-1])}, rising."
-    yield f"pub const TABLE: [u64; {len(steps)}] = ["
+    yield f"pub static TABLE: [u64; {len(steps)}] = ["
     for s in steps:
         yield f"    {s},"
     yield "];"

@@ -148,8 +148,8 @@ def source(table):
     return (
         "// The light table P (scope, Light: light table). Made by `python3 tools/light_table.py source`.\n"
         "// Entry k is the light of the PQ signal k/3504 to the nearest 1/16,777,216 cd/m2 (request 05); 3,505 entries, rising from 0 to\n"
-        "// 167,772,160,000. A mention of the constant stores them all: only `light_table` mentions it.\n"
-        f"pub const LIGHT_TABLE: [u64; {len(table)}] = [\n" + "".join(f"    {p},\n" for p in table) + "];\n"
+        "// 167,772,160,000.\n"
+        f"pub static LIGHT_TABLE: [u64; {len(table)}] = [\n" + "".join(f"    {p},\n" for p in table) + "];\n"
     )
 
 

@@ -76,7 +76,7 @@ def source():
         "values. Entries 32 to 895 are"
     )
     yield "// lines of codes, 896 to 1,540 roots of luminances."
-    yield f"pub const HINTS: [u64; {len(hints)}] = ["
+    yield f"pub static HINTS: [u64; {len(hints)}] = ["
     for h in hints:
         yield f"    {h},"
     yield "];"

@@ -73,7 +73,7 @@ def source(lights):
         "in 1/2^40 of the nominal range."
     )
     yield f"// {len(lights)} entries from {grouped(lights[0])} to {grouped(lights[-1])}, rising."
-    yield f"pub const TABLE: [u64; {len(lights)}] = ["
+    yield f"pub static TABLE: [u64; {len(lights)}] = ["
     for s in lights:
         yield f"    {s},"
     yield "];"

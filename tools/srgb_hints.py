@@ -61,7 +61,7 @@ def source():
     hints = made()
     yield "// Made by `python3 tools/srgb_hints.py source`, which says how they are laid out. Guesses of the steps that a scene light reaches, by its leading"
     yield "// bits; a test confirms each one's use, so nothing rests on these values."
-    yield f"pub const HINTS: [u16; {len(hints)}] = ["
+    yield f"pub static HINTS: [u16; {len(hints)}] = ["
     # as many to a line of 100 characters as the layout puts there
     yield from textwrap.wrap(", ".join(map(str, hints)) + ",", 100, initial_indent="    ", subsequent_indent="    ")
     yield "];"

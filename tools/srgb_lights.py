@@ -40,7 +40,7 @@ def light(v):
 def source(lights):
     yield "// Made by `python3 tools/srgb_lights.py source`. Entry v is the linear light of the sRGB value v, rounded down, in 1/2^40 of white's."
     yield f"// {len(lights)} entries from {grouped(lights[0])} to {grouped(lights[-1])}, rising."
-    yield f"pub const TABLE: [u64; {len(lights)}] = ["
+    yield f"pub static TABLE: [u64; {len(lights)}] = ["
     for s in lights:
         yield f"    {s},"
     yield "];"

@@ -23,7 +23,7 @@ def source(thresholds):
         "in 1/16,777,216 cd/m2."
     )
     yield f"// {len(thresholds)} entries from {grouped(thresholds[0])} to {grouped(thresholds[-1])}, rising."
-    yield f"pub const TABLE: [u64; {len(thresholds)}] = ["
+    yield f"pub static TABLE: [u64; {len(thresholds)}] = ["
     for light in thresholds:
         yield f"    {light},"
     yield "];"

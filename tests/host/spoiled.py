@@ -86,7 +86,7 @@ def spoiled_text(text, name, hinted, kind, random):
     """A table of hints with every number spoiled."""
     head, entries = text.split(" = [\n")
     hints = list(map(int, ENTRY.findall(entries)))
-    declared = re.search(r"const [A-Z]+: \[u(\d+); (\d+)\]", text)
+    declared = re.search(r"static [A-Z_]+: \[u(\d+); (\d+)\]", text)
     if not declared or int(declared[2]) != len(hints):
         raise SystemExit(f"{name} does not look as it should")
     bits = int(declared[1])

@@ -5,27 +5,16 @@ ghost use Rattle.std.specs.Prelude.{◌≡◌, ◌<◌, get_or};
 ghost use Rattle.big_endian.specs.BigEndian.{number_at};
 
 // The number whose high byte is at place i.
+#[tactic(auto, unfolding(crate::specs::BigEndian::number_at))]
 pub fn number_at(bytes: &[u8], i: usize) -> u64
     ensures { (result ≡ number_at bytes.now i) × (result < 65536) }
 {
-    if bytes.len() <= i {
-        return 0;
-    }
-    256 * byte_at(bytes, i) + byte_at(bytes, i + 1)
+    256 * byte_at(bytes, i) + byte_at(bytes, i.saturating_add(1))
 }
 
 // The byte at place i.
 pub fn byte_at(bytes: &[u8], i: usize) -> u64
     ensures { (result ≡ get_or bytes.now i 0) × (result < 256) }
 {
-    if i < bytes.len() {
-        return widen(bytes[i]);
-    }
-    0
-}
-
-fn widen(byte: u8) -> u64
-    ensures { (result ≡ byte) × (result < 256) }
-{
-    byte as u64
+    u64::from(bytes.get(i).copied().unwrap_or(0))
 }

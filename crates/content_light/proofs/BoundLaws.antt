@@ -1,11 +1,10 @@
 -- What bounds of a row's samples show: that every sample is taken, and how bright a pixel can be.
-use mathlib.Core.Path.{◌≡◌, refl, sym, ap, subst, ◌∙◌}
-use mathlib.Core.Logic.{◌⊎◌, inl, inr}
+use mathlib.Core.Path.{◌≡◌, ap, subst, ◌∙◌}
 use mathlib.Core.Bool.{Bool, false}
 use mathlib.Core.List.{List}
 use Prim.Native.Nat.{ℕ, zero, suc, max, min, ◌+◌, ◌-◌, ◌*◌, ◌/◌, ◌≤◌, ◌<◌, zero-le}
 use lib.ListN.{length}
-use native.Mathlib.Decide.{dec_le, dec_lt}
+use native.Mathlib.Decide.{dec_lt}
 use native.Mathlib.Omega.{arith}
 use borrow.Author.Tests.{le-ltb}
 use Rattle.quantity.specs.Component.{pixel, brightest}
@@ -15,7 +14,7 @@ use Rattle.content_light.specs.Bounds.{Bounded}
 
 -- ---- bounds pixel by pixel
 pub no_pixel_bounded : (row : List ℕ) (least : ℕ) → Bounded row 0 least 0
-no_pixel_bounded row least = record { above = λ i h. absurd (omega arith); below = λ i h. absurd (omega arith); reached = inl (refl, refl) }
+no_pixel_bounded row least = record { above = λ i h. absurd (omega arith); below = λ i h. absurd (omega arith); reached = λ m h. zero-le }
 
 -- the last three samples, or one before them
 last_three : (P : ℕ → Type 0) (n : ℕ) → ((i : ℕ) → i < 3 * n → P i) → P (3 * n) → P (3 * n + 1) → P (3 * n + 2) → (i : ℕ) → i < 3 * (n + 1) → P i
@@ -36,19 +35,8 @@ next_bounded {row} {n} {least} {most} {r} {g} {b} x p q s =
     record {
       above = last_three (λ i. low ≤ sample_at row i) n (λ i h. let k = x.above i h in omega arith) (omega arith) (omega arith) (omega arith);
       below = last_three (λ i. sample_at row i ≤ high) n (λ i h. let k = x.below i h in omega arith) (omega arith) (omega arith) (omega arith);
-      reached = go x.reached (dec_le most (brightest (pixel r g b)));
+      reached = λ m h. let new : brightest (pixel r g b) ≤ m = rw (p, q, s) (h n (omega arith)) in omega (arith, x.reached m (λ j k. h j (omega arith)));
     }
-  where
-    -- the new pixel reaches the most, or one before it does
-    go : ((n ≡ 0) × (most ≡ 0)) ⊎ ((j : ℕ) × (j < n) × (brightest (pixel_at row j) ≡ most)) → Dec (most ≤ brightest (pixel r g b))
-        → ((n + 1 ≡ 0) × (max most (brightest (pixel r g b)) ≡ 0))
-        ⊎ ((j : ℕ) × (j < n + 1) × (brightest (pixel_at row j) ≡ max most (brightest (pixel r g b))))
-    go old (yes l) = inr (n, omega arith, rw (sym p, sym q, sym s) (omega arith))
-    go (inl (e, z)) (no l) = absurd (omega arith)
-    go (inr (j, h, e)) (no l) = inr (j, omega arith, omega (arith, e))
-
-pub from_zero : {row : List ℕ} {n least most : ℕ} → Bounded row n least most → Bounded row n 0 most
-from_zero x = record { above = λ i h. zero-le; below = x.below; reached = x.reached }
 
 -- ---- what they show
 -- no sample is refused

@@ -1,16 +1,17 @@
 -- Which answers request 09 changes, over every list of rows: of pixels that share the largest light the last is told now, and the first was before. The
 -- peak is the same. The choice of before is said here alone.
-use mathlib.Core.Path.{◌≡◌, refl, sym, ◌∙◌}
+use mathlib.Core.Path.{◌≡◌, refl, sym, ap, ◌∙◌}
 use mathlib.Core.Logic.{◌⊎◌, inl, inr}
 use mathlib.Core.List.{List}
 use Prim.Native.Nat.{ℕ, ◌<◌}
 use native.Mathlib.Decide.{dec_lt}
 use native.Mathlib.Omega.{arith}
 use lib.Dec.{ltb}
+use Rattle.std.specs.Prelude.{Result, Ok, Err}
 use borrow.Author.Tests.{ltb-true, ltb-false}
-use Rattle.content_light.specs.declared.PeakAnswer.{PeakAnswer}
-use Rattle.content_light.specs.declared.PeakAnswer.TheVariants.{Peak, Refused}
-use Rattle.content_light.specs.Peak.{CodedRow, accepted_rows, Brightest, none, found, brightest_pixel, peak_of, measured}
+use Rattle.refusal.specs.declared.Refusal.{Refusal}
+use Rattle.content_light.specs.declared.Peak.{Peak}
+use Rattle.content_light.specs.Peak.{CodedRow, accepted_rows, Brightest, none, found, brightest_pixel, rounded_up, peak_at, peak_of, measured}
 use Rattle.content_light.proofs.BrightestLaws.{Before, one_way, same_place, BrightestAt, same_light, Choice, after_rows_by, Keeps}
 use Rattle.content_light.proofs.BrightestLaws.{kept_brightest, kept_tied, nothing_kept, brightest_found, no_pixel_located}
 use Rattle.content_light.proofs.LastLaws.{last_brightest}
@@ -20,7 +21,7 @@ abbrev pub former_choice : Choice
 former_choice light before = ltb before light
 
 -- and a run measured the same accepted rows by that choice
-unfoldable pub formerly_measured : List CodedRow → PeakAnswer
+unfoldable pub formerly_measured : List CodedRow → Result Peak Refusal
 formerly_measured rows = peak_of (after_rows_by former_choice none 0 (accepted_rows 0 rows))
 
 keeps_first : Keeps former_choice (λ i j row pixel. Before i j row pixel → ⊥)
@@ -117,9 +118,9 @@ module _ (rows : List CodedRow) where
 
 -- ---- the answers
 -- an answer but for its place
-abbrev pub without_place : PeakAnswer → PeakAnswer
-without_place (Peak peak row pixel) = Peak peak 0 0
-without_place (Refused number) = Refused number
+abbrev pub without_place : Result Peak Refusal → Result Peak Refusal
+without_place (Ok peak) = Ok (peak_at peak.cd 0 0)
+without_place (Err refusal) = Err refusal
 
 module _ (rows : List CodedRow) where
   -- The peak is the same, and so is the refusal of a title without a pixel.
@@ -150,6 +151,7 @@ module _ (rows : List CodedRow) where
           differ : measured rows ≡ formerly_measured rows → ⊥
           differ e =
               let h = simp (p, q) at e in
-              let same_row : later_row ≡ row = cc in
-              let same_pixel : later_pixel ≡ pixel = cc in
+              let same : peak_at (rounded_up light) later_row later_pixel ≡ peak_at (rounded_up light) row pixel = cc in
+              let same_row : later_row ≡ row = ap (λ (x : Peak). x.row) same in
+              let same_pixel : later_pixel ≡ pixel = ap (λ (x : Peak). x.pixel) same in
               one_way (rw (same_row, same_pixel) at b) (rw (same_row, same_pixel) at b)

@@ -3,6 +3,7 @@
 use mathlib.Core.Path.{◌≡◌, refl}
 use mathlib.Core.List.{[], ◌∷◌, ◌++◌}
 use Prim.Native.Nat.{ℕ}
+use Rattle.std.specs.Prelude.{Ok, Err}
 use Rattle.quantity.specs.Units.{units, last_position}
 use Rattle.quantity.specs.declared.sample_format.Depth.TheVariants.{Ten, Twelve}
 use Rattle.quantity.specs.declared.sample_format.Range.TheVariants.{Narrow, Full}
@@ -14,12 +15,11 @@ use Rattle.position.specs.Position.{light_at}
 use Rattle.position.specs.Code.{code_light}
 use Rattle.pixel.specs.Conversion.{brightest_light, brightest_position}
 use Rattle.rows.specs.Row.{sample_at, pixel_bytes}
-use Rattle.rows.specs.Answer.{outside, first_of, length_refused}
+use Rattle.rows.specs.Answer.{outside, first_of, count_refused}
 use Rattle.content_light.specs.declared.RunRecord.{RunRecord}
-use Rattle.content_light.specs.declared.PeakAnswer.TheVariants.{Peak, Refused}
-use Rattle.content_light.specs.declared.RecordAnswer.TheVariants as answer
+use Rattle.refusal.specs.declared.Refusal.TheVariants.{NoPixel, RowCount}
 use Rattle.content_light.specs.Peak.{CodedRow, row_in, most_rows, row_test}
-use Rattle.content_light.specs.Peak.{accepted_rows, outshines, after, after_pixels, after_rows, rounded_up, peak_of, measured}
+use Rattle.content_light.specs.Peak.{accepted_rows, outshines, after, after_pixels, after_rows, rounded_up, peak_at, peak_of, measured}
 use Rattle.content_light.specs.Run.{most_pixels, takes_over, with_pixel, with_pixels, with_row, record_answer}
 use Rattle.content_light.proofs.BrightestLaws.{after_by, after_pixels_by, after_rows_by}
 use Rattle.content_light.proofs.EqualLightLaws.{formerly_measured}
@@ -37,28 +37,28 @@ abbrev empty : CodedRow
 empty = row_in (coded Ten Narrow) []
 
 pub record Examples : Type 0 where
-  pub black : measured (row_of 64 ∷ []) ≡ Peak 0 0 0
-  pub first_code : measured (row_of 65 ∷ []) ≡ Peak 1 0 0
-  pub below_thousand : measured (row_of 722 ∷ []) ≡ Peak 994 0 0
-  pub above_thousand : measured (row_of 723 ∷ []) ≡ Peak 1005 0 0
-  pub full_signal : measured (row_of 940 ∷ []) ≡ Peak 10000 0 0
-  pub past_signal : measured (row_of 1019 ∷ []) ≡ Peak 10000 0 0
-  pub earlier_row : measured (row_of 722 ∷ row_of 65 ∷ []) ≡ Peak 994 0 0
-  pub later_row : measured (row_of 65 ∷ row_of 722 ∷ []) ≡ Peak 994 1 0
-  pub equal_light : measured (row_of 940 ∷ row_of 1019 ∷ []) ≡ Peak 10000 1 0
-  pub equal_light_before : formerly_measured (row_of 940 ∷ row_of 1019 ∷ []) ≡ Peak 10000 0 0
-  pub equal_blacks : measured (row_of 64 ∷ row_of 4 ∷ []) ≡ Peak 0 1 0
-  pub equal_pixels : measured (three_pixels (pixel 722 64 64) (pixel 64 722 64) (pixel 721 721 721) ∷ []) ≡ Peak 994 0 1
-  pub refused_row : measured (row_of 3 ∷ row_of 722 ∷ []) ≡ Peak 994 0 0
-  pub empty_row : measured (empty ∷ row_of 722 ∷ []) ≡ Peak 994 1 0
-  pub twelve_bits : measured (row_in (coded Twelve Narrow) (pixel_bytes (pixel 2888 256 256)) ∷ []) ≡ Peak 994 0 0
-  pub full_range : measured (row_in (coded Twelve Full) (pixel_bytes (pixel 4095 0 0)) ∷ []) ≡ Peak 10000 0 0
-  pub equal_formats : measured (row_of 722 ∷ row_in (coded Twelve Narrow) (pixel_bytes (pixel 2888 256 256)) ∷ []) ≡ Peak 994 1 0
-  pub brighter_format : measured (row_of 722 ∷ row_in (coded Ten Full) (pixel_bytes (pixel 769 0 0)) ∷ []) ≡ Peak 999 1 0
-  pub no_pixel : measured (empty ∷ []) ≡ Refused 12
+  pub black : measured (row_of 64 ∷ []) ≡ Ok (peak_at 0 0 0)
+  pub first_code : measured (row_of 65 ∷ []) ≡ Ok (peak_at 1 0 0)
+  pub below_thousand : measured (row_of 722 ∷ []) ≡ Ok (peak_at 994 0 0)
+  pub above_thousand : measured (row_of 723 ∷ []) ≡ Ok (peak_at 1005 0 0)
+  pub full_signal : measured (row_of 940 ∷ []) ≡ Ok (peak_at 10000 0 0)
+  pub past_signal : measured (row_of 1019 ∷ []) ≡ Ok (peak_at 10000 0 0)
+  pub earlier_row : measured (row_of 722 ∷ row_of 65 ∷ []) ≡ Ok (peak_at 994 0 0)
+  pub later_row : measured (row_of 65 ∷ row_of 722 ∷ []) ≡ Ok (peak_at 994 1 0)
+  pub equal_light : measured (row_of 940 ∷ row_of 1019 ∷ []) ≡ Ok (peak_at 10000 1 0)
+  pub equal_light_before : formerly_measured (row_of 940 ∷ row_of 1019 ∷ []) ≡ Ok (peak_at 10000 0 0)
+  pub equal_blacks : measured (row_of 64 ∷ row_of 4 ∷ []) ≡ Ok (peak_at 0 1 0)
+  pub equal_pixels : measured (three_pixels (pixel 722 64 64) (pixel 64 722 64) (pixel 721 721 721) ∷ []) ≡ Ok (peak_at 994 0 1)
+  pub refused_row : measured (row_of 3 ∷ row_of 722 ∷ []) ≡ Ok (peak_at 994 0 0)
+  pub empty_row : measured (empty ∷ row_of 722 ∷ []) ≡ Ok (peak_at 994 1 0)
+  pub twelve_bits : measured (row_in (coded Twelve Narrow) (pixel_bytes (pixel 2888 256 256)) ∷ []) ≡ Ok (peak_at 994 0 0)
+  pub full_range : measured (row_in (coded Twelve Full) (pixel_bytes (pixel 4095 0 0)) ∷ []) ≡ Ok (peak_at 10000 0 0)
+  pub equal_formats : measured (row_of 722 ∷ row_in (coded Twelve Narrow) (pixel_bytes (pixel 2888 256 256)) ∷ []) ≡ Ok (peak_at 994 1 0)
+  pub brighter_format : measured (row_of 722 ∷ row_in (coded Ten Full) (pixel_bytes (pixel 769 0 0)) ∷ []) ≡ Ok (peak_at 999 1 0)
+  pub no_pixel : measured (empty ∷ []) ≡ Err NoPixel
 
 pub examples : Examples
-unfolding units light_table light_entry number_at light_at code_light brightest_light sample_at pixel_bytes outside first_of length_refused most_rows row_test
+unfolding units light_table light_entry number_at light_at code_light brightest_light sample_at pixel_bytes outside first_of count_refused most_rows row_test
     accepted_rows outshines after after_pixels after_rows rounded_up peak_of measured after_by after_pixels_by after_rows_by formerly_measured
 examples =
     record {
@@ -87,7 +87,7 @@ examples =
 abbrev all_rows : RunRecord
 all_rows = record { rows = 4294967295; pixels = 1; position = record { 0 = 0 }; row = 0; pixel = 0 }
 
-pub full_record : (row : CodedRow) → record_answer all_rows row ≡ answer.Refused 13 0
+pub full_record : (row : CodedRow) → record_answer all_rows row ≡ Err RowCount
 unfolding most_rows row_test record_answer
 full_record row = refl
 
@@ -96,7 +96,7 @@ abbrev dark_record : RunRecord
 dark_record = record { rows = 9; pixels = 9; position = record { 0 = 3 }; row = 3; pixel = 3 }
 
 pub dark_record_lem :
-    record_answer dark_record (row_of 64) ≡ answer.Measured (record { rows = 10; pixels = 10; position = record { 0 = 0 }; row = 9; pixel = 0 })
-unfolding light_table light_entry number_at light_at brightest_position sample_at pixel_bytes outside first_of length_refused most_rows most_pixels row_test
+    record_answer dark_record (row_of 64) ≡ Ok (record { rows = 10; pixels = 10; position = record { 0 = 0 }; row = 9; pixel = 0 })
+unfolding light_table light_entry number_at light_at brightest_position sample_at pixel_bytes outside first_of count_refused most_rows most_pixels row_test
     outshines takes_over with_pixel with_pixels with_row record_answer last_position
 dark_record_lem = refl

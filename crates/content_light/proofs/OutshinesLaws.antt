@@ -1,7 +1,10 @@
 -- Laws of what outshines what: by light, and for positions by their ranks.
-use mathlib.Core.Path.{◌≡◌, sym}
+use mathlib.Core.Path.{◌≡◌, sym, ◌∙◌}
 use mathlib.Core.Bool.{true, false}
-use Prim.Native.Nat.{ℕ, ◌≤◌, ◌<◌}
+use Prim.Native.Nat.{ℕ, ◌≤◌}
+use native.Mathlib.Nat.{lt_of_not-le}
+use native.Mathlib.Decide.{dec_le}
+use lib.Dec.{leb}
 use native.Mathlib.Omega.{arith}
 use borrow.Author.Tests.{leb-true, leb-false, le-leb, lt-leb}
 use Rattle.quantity.specs.Units.{last_position}
@@ -38,11 +41,10 @@ unfolding outshines
 dimmer_still light found brighter h e = lt-leb brighter light (omega (arith, leb-false found light e))
 
 -- positions by their ranks
-module _ (m found : ℕ) where
-  pub as_high_outshines : light_rank found ≤ light_rank m → true ≡ outshines (light_at m) (light_at found)
-  unfolding outshines
-  as_high_outshines h = sym (le-leb (light_at found) (light_at m) (rank_le found m h))
-
-  pub lower_does_not : found ≤ last_position → light_rank m < light_rank found → false ≡ outshines (light_at m) (light_at found)
-  unfolding outshines
-  lower_does_not last h = sym (lt-leb (light_at found) (light_at m) (rank_lt m found last h))
+pub by_ranks : (m found : ℕ) → found ≤ last_position → leb (light_rank found) (light_rank m) ≡ outshines (light_at m) (light_at found)
+unfolding outshines
+by_ranks m found last = go (dec_le (light_rank found) (light_rank m))
+  where
+    go : Dec (light_rank found ≤ light_rank m) → leb (light_rank found) (light_rank m) ≡ leb (light_at found) (light_at m)
+    go (yes h) = le-leb _ _ h ∙ sym (le-leb _ _ (rank_le found m h))
+    go (no h) = let l = lt_of_not-le h in lt-leb _ _ l ∙ sym (lt-leb _ _ (rank_lt m found last l))

@@ -1,12 +1,13 @@
 -- A measured peak: the least whole number of cd/m2 that no pixel of the accepted rows exceeds. Under it, from 1 up, the row call converts each of these
 -- rows, and no pixel is cut at the peak's position.
-use mathlib.Core.Path.{◌≡◌, refl, sym, subst, ◌∙◌}
+use mathlib.Core.Path.{◌≡◌, refl, sym, ap, subst, ◌∙◌}
 use mathlib.Core.Bool.{false}
 use mathlib.Core.List.{List, [], ◌∷◌}
 use Prim.Native.Nat.{ℕ, zero, suc, ◌*◌, ◌-◌, ◌/◌, ◌≤◌, ◌<◌}
 use native.Mathlib.Nat.{le_trans}
 use native.Mathlib.Omega.{arith}
 use lib.ListN.{length}
+use Rattle.std.specs.Prelude.{Ok}
 use borrow.Author.Tests.{eq-eqb, ne_eqb, le-ltb}
 use Rattle.quantity.specs.Units.{units, ten_thousand}
 use Rattle.quantity.specs.declared.sample_format.SampleFormat.{SampleFormat}
@@ -18,16 +19,15 @@ use Rattle.position.proofs.PositionLaws.{position_is}
 use Rattle.position.proofs.CodeLaws.{black_light}
 use Rattle.pixel.specs.Conversion.{brightest_light, brightest_position}
 use Rattle.pixel.proofs.PixelLaws.{light_of_brightest, brightest_lit, brightest_light_at_most, brightest_position_range}
-use Rattle.rows.specs.declared.RowAnswer.TheVariants.{Converted}
 use Rattle.rows.specs.Row.{pixel_at}
 use Rattle.rows.specs.Answer.{first_refused, length_refused, destination_refused, span_refused, span_answer}
 use Rattle.rows.proofs.AnswerLaws.{length_taken}
 use Rattle.pq_hlg.specs.Pixel.{peak_refused, sample_refused}
 use Rattle.pq_hlg.specs.Row.{row_answer}
-use Rattle.content_light.specs.declared.PeakAnswer.TheVariants.{Peak}
+use Rattle.content_light.specs.declared.Peak.{Peak}
 use Rattle.content_light.specs.Peak.{CodedRow, pixels_of, Test, accepted, refused, row_test}
 use Rattle.content_light.specs.Peak.{counted, kept, accepted_rows, light_of, Brightest, none, found, brightest_pixel}
-use Rattle.content_light.specs.Peak.{rounded_up, peak_of, measured}
+use Rattle.content_light.specs.Peak.{rounded_up, peak_at, peak_of, measured}
 use Rattle.content_light.proofs.RangeLaws.{taken}
 use Rattle.content_light.proofs.BrightestLaws.{row_at, Located, BrightestAt, brightest_found}
 
@@ -63,12 +63,12 @@ accepted_passed n (row ∷ later) k h = go (row_test n row) refl k h (λ m. acce
         → Passed (row_at (kept t row (accepted_rows (counted t n) later)) i)
     go accepted e zero l again = let t = taken n row e in (t.length_passed, t.samples_passed)
     go accepted e (suc i) l again = again (suc n) i (omega arith)
-    go (refused number place) e i l again = again n i l
+    go (refused refusal) e i l again = again n i l
 
 -- ---- the row call converts such a row whole, under the peak and in the row's own format
 abbrev pub ConvertsWhole : ℕ → CodedRow → Type 0
 ConvertsWhole peak row =
-    row_answer (record { peak = peak; format = row.format }) row.bytes (length row.bytes) 0 (pixels_of row) ≡ Converted
+    row_answer (record { peak = peak; format = row.format }) row.bytes (length row.bytes) 0 (pixels_of row) ≡ Ok tt
 
 pub whole_row_converts : (peak : ℕ) (coded : CodedRow) → 1 ≤ peak → peak ≤ 10000 → Passed coded → ConvertsWhole peak coded
 unfolding row_answer peak_refused span_answer destination_refused span_refused
@@ -93,7 +93,7 @@ pub record Under (peak : ℕ) (row : CodedRow) : Type 0 where
   pub light : (j : ℕ) → j < pixels_of row → light_of row j ≤ peak * units
   pub position : (j : ℕ) → j < pixels_of row → brightest_position row.format (pixel_at row.bytes j) ≤ position_of (peak * units)
 
-module _ (rows : List CodedRow) {peak row pixel : ℕ} (m : measured rows ≡ Peak peak row pixel) where
+module _ (rows : List CodedRow) {peak row pixel : ℕ} (m : measured rows ≡ Ok (peak_at peak row pixel)) where
   -- its light is that of a brightest pixel
   abbrev FoundLight : Type 0
   FoundLight = (light : ℕ) × (peak ≡ rounded_up light) × BrightestAt (accepted_rows 0 rows) light row pixel
@@ -106,9 +106,10 @@ module _ (rows : List CodedRow) {peak row pixel : ℕ} (m : measured rows ≡ Pe
       go none e = let h = simp e at m in let z : ◌≡◌ {A = ℕ} 0 1 = cc in absurd (omega arith)
       go (found light r j) e =
           let h = simp e at m in
-          let same_row : r ≡ row = cc in
-          let same_pixel : j ≡ pixel = cc in
-          (light, cc, brightest_found (accepted_rows 0 rows) (e ∙ rw (same_row, same_pixel)))
+          let same : peak_at (rounded_up light) r j ≡ peak_at peak row pixel = cc in
+          let same_row : r ≡ row = ap (λ (x : Peak). x.row) same in
+          let same_pixel : j ≡ pixel = ap (λ (x : Peak). x.pixel) same in
+          (light, ap (λ (x : Peak). x.cd) (sym same), brightest_found (accepted_rows 0 rows) (e ∙ rw (same_row, same_pixel)))
 
   -- no pixel of an accepted row has more light,
   pub peak_enough : (i j : ℕ) → Located (accepted_rows 0 rows) i j → light_of (row_at (accepted_rows 0 rows) i) j ≤ peak * units

@@ -10,6 +10,7 @@ use Rattle.quantity.specs.Units.{last_position}
 use Rattle.rows.specs.Answer.{first_refused, length_refused}
 use Rattle.rows.proofs.AnswerLaws.{length_taken}
 use Rattle.pq_hlg.specs.Pixel.{sample_refused}
+use Rattle.refusal.specs.declared.Refusal.{Refusal}
 use Rattle.content_light.specs.declared.RunRecord.{RunRecord}
 use Rattle.content_light.specs.Peak.{CodedRow, pixels_of, most_rows, accepted, refused, row_test}
 use Rattle.content_light.specs.Run.{most_pixels, record_read, fresh_record, takes_over, with_pixel, position_of, with_pixels, with_row}
@@ -48,7 +49,7 @@ taken rows row h = go (leb most_rows rows) (length_refused (length row.bytes)) (
     i : ℕ
     i = first_refused (sample_refused row.format) row.bytes 0 (length row.bytes / 2)
 
-    not_refused : {number place : ℕ} → refused number place ≡ accepted → Taken rows row
+    not_refused : {refusal : Refusal} → refused refusal ≡ accepted → Taken rows row
     not_refused e = absurd (let n : ◌≡◌ {A = ℕ} 0 1 = cc in omega arith)
 
     go : (a b c : Bool) → leb most_rows rows ≡ a → length_refused (length row.bytes) ≡ b → ltb i (length row.bytes / 2) ≡ c → Taken rows row

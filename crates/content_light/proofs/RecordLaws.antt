@@ -4,7 +4,7 @@ use mathlib.Core.Bool.{Bool, true, false, cond}
 use Prim.Native.Nat.{ℕ, zero, suc, min, ◌+◌, ◌≤◌, ◌<◌}
 use native.Mathlib.Omega.{arith}
 use lib.Dec.{eqb}
-use borrow.Author.Tests.{eqb-false, eq-eqb, ne_eqb}
+use borrow.Author.Tests.{eqb-false, ne_eqb}
 use Rattle.quantity.specs.Units.{last_position}
 use Rattle.quantity.specs.Component.{brightest}
 use Rattle.position.specs.Position.{light_at}
@@ -16,9 +16,8 @@ use Rattle.pixel.proofs.PixelLaws.{brightest_position_range}
 use Rattle.rows.specs.Row.{pixel_at}
 use Rattle.rows.proofs.AnswerLaws.{neither}
 use Rattle.content_light.specs.declared.RunRecord.{RunRecord}
-use Rattle.content_light.specs.declared.PeakAnswer.TheVariants.{Peak, Refused}
-use Rattle.content_light.specs.Peak.{CodedRow, most_rows, outshines, rounded_up, peak_of}
-use Rattle.content_light.specs.Run.{most_pixels, record_read, takes_over, with_pixel, position_of, with_pixels, held, peak_answer}
+use Rattle.content_light.specs.Peak.{CodedRow, most_rows, outshines}
+use Rattle.content_light.specs.Run.{most_pixels, takes_over, with_pixel, position_of, with_pixels}
 use Rattle.content_light.specs.Bounds.{Bounded}
 use Rattle.content_light.proofs.OutshinesLaws.{dimmer}
 use Rattle.content_light.proofs.BoundLaws.{brightest_bounded}
@@ -36,14 +35,6 @@ abbrev pub counting : RunRecord → ℕ → RunRecord
 counting r count = record { rows = r.rows; pixels = count; position = r.position; row = r.row; pixel = r.pixel }
 
 -- ---- one pixel more
-pub first_takes_over : (r : RunRecord) (m : ℕ) → r.pixels ≡ 0 → true ≡ takes_over r m
-unfolding takes_over
-first_takes_over r m e = sym (simp (eq-eqb r.pixels 0 e))
-
-pub later_takes_over : (r : RunRecord) (m : ℕ) → (r.pixels ≡ 0 → ⊥) → outshines (light_at m) (light_at r.position.0) ≡ takes_over r m
-unfolding takes_over
-later_takes_over r m e = sym (simp (ne_eqb r.pixels 0 e))
-
 pub taken_over : (r : RunRecord) (m j : ℕ) {count : ℕ} → takes_over r m ≡ true → count ≡ min (suc r.pixels) most_pixels
     → record { rows = r.rows; pixels = count; position = record { 0 = m }; row = r.rows; pixel = j } ≡ with_pixel r m j
 unfolding with_pixel
@@ -117,22 +108,12 @@ rest_counted r row n p q (suc d) h =
         simp (some, h (n + d) (omega arith) (omega arith)) (ap (counting s) e)
 
 -- So are all of a row where a pixel of the bound itself would not take over.
-pub only_counted : (r : RunRecord) (row : CodedRow) {n most : ℕ} → Bounded row.bytes n 0 most → r.pixels ≤ most_pixels
+pub only_counted : (r : RunRecord) (row : CodedRow) {n least most : ℕ} → Bounded row.bytes n least most → r.pixels ≤ most_pixels
     → takes_over r (code_position row.format most) ≡ false
     → (k : ℕ) → k ≤ n → with_pixels r row k ≡ counting_on r k
 unfolding takes_over with_pixels
-only_counted r row {n} {most} b p t k h =
+only_counted r row {n} {least} {most} b p t k h =
     let none : (eqb r.pixels 0 ≡ false) × (outshines (light_at (code_position row.format most)) (light_at r.position.0) ≡ false) = neither _ _ t in
     let all : 0 + k ≡ k = omega arith in
     subst (λ (j : ℕ). with_pixels r row j ≡ counting_on r k) all
     (rest_counted r row 0 (eqb-false r.pixels 0 none.0) p k (λ j x y. dimmer _ _ _ (light_bounded row b j (omega arith)) none.1))
-
--- ---- the result
-pub no_peak : (r : RunRecord) → (record_read r).pixels ≡ 0 → Refused 12 ≡ peak_answer r
-unfolding peak_answer held peak_of
-no_peak r e = sym (simp (eq-eqb (record_read r).pixels 0 e))
-
-pub a_peak : (r : RunRecord) → ((record_read r).pixels ≡ 0 → ⊥)
-    → Peak (rounded_up (light_at (record_read r).position.0)) (record_read r).row (record_read r).pixel ≡ peak_answer r
-unfolding peak_answer held peak_of
-a_peak r e = sym (simp (ne_eqb (record_read r).pixels 0 e))

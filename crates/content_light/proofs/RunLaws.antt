@@ -6,14 +6,14 @@ use mathlib.Core.List.{List, [], ◌∷◌}
 use Prim.Native.Nat.{ℕ, zero, suc, min}
 use native.Mathlib.Omega.{arith}
 use lib.Dec.{eqb}
+use Rattle.std.specs.Prelude.{Result, Ok, Err}
 use borrow.Author.Tests.{ne_eqb}
 use Rattle.position.specs.Position.{light_at}
 use Rattle.pixel.specs.Conversion.{brightest_light}
 use Rattle.pixel.proofs.PixelLaws.{brightest_lit}
 use Rattle.rows.specs.Row.{pixel_at}
+use Rattle.refusal.specs.declared.Refusal.{Refusal}
 use Rattle.content_light.specs.declared.RunRecord.{RunRecord}
-use Rattle.content_light.specs.declared.RecordAnswer.{RecordAnswer}
-use Rattle.content_light.specs.declared.RecordAnswer.TheVariants.{Measured, Refused}
 use Rattle.content_light.specs.Peak.{CodedRow, pixels_of, Test, accepted, refused, row_test, tests}
 use Rattle.content_light.specs.Peak.{accepted_rows, outshines, after, after_pixels, after_rows, peak_of, measured}
 use Rattle.content_light.specs.Run.{most_pixels, fresh_record, takes_over, with_pixel, position_of}
@@ -23,25 +23,25 @@ use Rattle.content_light.proofs.RangeLaws.{InRange, fresh_in_range, read_same, t
 
 -- ---- the calls
 -- what the next call takes: the record answered, or after a refusal the caller's own
-abbrev pub carried : RecordAnswer → RunRecord → RunRecord
-carried (Measured s) r = s
-carried (Refused number place) r = r
+abbrev pub carried : Result RunRecord Refusal → RunRecord → RunRecord
+carried (Ok s) r = s
+carried (Err refusal) r = r
 
 -- the record after a call for each row, and what the calls answered
 unfoldable pub record_after : RunRecord → List CodedRow → RunRecord
 record_after r [] = r
 record_after r (row ∷ later) = record_after (carried (record_answer r row) r) later
 
-unfoldable pub answers_of : RunRecord → List CodedRow → List RecordAnswer
+unfoldable pub answers_of : RunRecord → List CodedRow → List (Result RunRecord Refusal)
 answers_of r [] = []
 answers_of r (row ∷ later) = let a = record_answer r row in a ∷ answers_of (carried a r) later
 
--- an answer as a test: accepted, or the refusal's number and place
-abbrev pub told : RecordAnswer → Test
-told (Measured s) = accepted
-told (Refused number place) = refused number place
+-- an answer as a test: accepted, or the refusal
+abbrev pub told : Result RunRecord Refusal → Test
+told (Ok s) = accepted
+told (Err refusal) = refused refusal
 
-unfoldable pub all_told : List RecordAnswer → List Test
+unfoldable pub all_told : List (Result RunRecord Refusal) → List Test
 all_told [] = []
 all_told (a ∷ later) = told a ∷ all_told later
 
@@ -101,12 +101,12 @@ follows r (row ∷ later) x = go (row_test r.rows row) refl (follows (with_row r
           holds = rw (a, e) (y.holds ∙ rw (held_row r row, rows_of_row r row));
           tells = rw (a, e) (ap (λ (l : List Test). accepted ∷ l) (y.tells ∙ ap (λ (n : ℕ). tests n later) (rows_of_row r row)));
         }
-    go (refused number place) e more same =
+    go (refused refusal) e more same =
         let a = answered r row x ∙ ap (λ (t : Test). answer_after t (with_row r row)) e in
         record {
           range = rw a same.range;
           holds = rw (a, e) same.holds;
-          tells = rw (a, e) (ap (λ (l : List Test). refused number place ∷ l) same.tells);
+          tells = rw (a, e) (ap (λ (l : List Test). refused refusal ∷ l) same.tells);
         }
 
 module _ (rows : List CodedRow) where

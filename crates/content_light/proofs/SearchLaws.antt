@@ -4,10 +4,13 @@ use mathlib.Core.Bool.{Bool, true, false}
 use mathlib.Core.Logic.{◌⊎◌, inl, inr}
 use mathlib.Core.List.{List}
 use Prim.Native.Nat.{ℕ, zero, suc, min, ◌+◌, ◌-◌, ◌/◌, ◌≤◌, ◌<◌}
-use native.Mathlib.Decide.{dec_le}
+use native.Mathlib.Decide.{dec_le, dec_lt}
 use native.Mathlib.Omega.{arith}
+use Rattle.std.proofs.Math.Numerals.{lt_of_le_of_ne}
+use Rattle.content_light.proofs.BoundLaws.{brightest_bounded}
 use lib.Dec.{eqb}
 use lib.ListN.{length}
+use Rattle.std.specs.Prelude.{None}
 use borrow.Author.Tests.{eqb-true, eqb-false}
 use Rattle.quantity.specs.Component.{brightest}
 use Rattle.quantity.specs.declared.sample_format.SampleFormat.{SampleFormat}
@@ -19,7 +22,7 @@ use Rattle.rows.proofs.AnswerLaws.{neither}
 use Rattle.content_light.specs.declared.RunRecord.{RunRecord}
 use Rattle.content_light.specs.Peak.{CodedRow, row_in, outshines}
 use Rattle.content_light.specs.Run.{most_pixels, takes_over, with_pixel, position_of, with_pixels}
-use Rattle.content_light.specs.Bounds.{Bounded, LastReaching}
+use Rattle.content_light.specs.Bounds.{Bounded, LastAt, LastReaching}
 use Rattle.content_light.proofs.OutshinesLaws.{outshines_le, equal_taken, as_bright, dimmer_still}
 use Rattle.content_light.proofs.RecordLaws.{most_pixels_lem, taken_over, left_alone, chosen, rows_kept, counting_on, rest_counted, light_bounded}
 
@@ -76,32 +79,28 @@ module _ (r : RunRecord) (row : CodedRow) where
       let count : min (suc s.pixels) most_pixels ≡ min (r.pixels + suc n) most_pixels = omega (arith, pixels_counted n h) in
       chosen (λ (x : RunRecord). x.pixels ≡ min (r.pixels + suc n) most_pixels) (takes_over s (position_of row n)) _ _ count count
 
-  -- a row with bounds of which the most takes over, and the pixels up to the last that reaches it
-  module _ {n most count : ℕ} (b : Bounded row.bytes n 0 most) (over : takes_over r (code_position row.format most) ≡ true)
-      (last : LastReaching row n (code_position row.format most) count) where
-    -- That pixel is in the record then.
-    pub last_taken : r.pixels ≤ most_pixels → 0 < count
-        → taking r.rows (min (r.pixels + n) most_pixels) (position_of row (count - 1)) (count - 1) ≡ with_pixels r row n
+  -- a row with bounds of which the most takes over
+  module _ {n least most : ℕ} (b : Bounded row.bytes n least most) (over : takes_over r (code_position row.format most) ≡ true) where
+    -- The last pixel that reaches it is in the record then.
+    pub last_taken : {j : ℕ} → LastAt row n (code_position row.format most) j → r.pixels ≤ most_pixels
+        → taking r.rows (min (r.pixels + n) most_pixels) (position_of row j) j ≡ with_pixels r row n
     unfolding with_pixels
-    last_taken most_counted h =
+    last_taken {j} last most_counted =
         let counted : min (r.pixels + n) most_pixels ≡ min (min (r.pixels + suc j) most_pixels + rest) most_pixels = omega (arith, last.within) in
         let all : suc j + rest ≡ n = omega (arith, last.within) in
         ap (λ (c : ℕ). taking r.rows c m j) counted ∙ ap (λ (x : RunRecord). counting_on x rest) there ∙ sym others ∙ ap (with_pixels r row) all
       where
-        j : ℕ
-        j = count - 1
-
         m : ℕ
         m = position_of row j
 
         rest : ℕ
-        rest = n - count
+        rest = n - suc j
 
         s : RunRecord
         s = with_pixels r row j
 
         up : light_at (code_position row.format most) ≤ light_at m
-        up = outshines_le _ _ (last.reaches h)
+        up = outshines_le _ _ last.here
 
         lift : AtMost r (light_at (code_position row.format most)) → AtMost r (light_at m)
         lift (inl z) = inl z
@@ -129,13 +128,16 @@ module _ (r : RunRecord) (row : CodedRow) where
             (λ k x y. dimmer_still _ _ _ (omega (arith, held, up)) (last.others k (omega arith) (omega (arith, last.within))))
 
     -- Where none reaches it, there is none.
-    pub none_reaching : count ≡ 0 → r ≡ with_pixels r row n
+    pub none_reaching : LastReaching row n (code_position row.format most) None → r ≡ with_pixels r row n
     unfolding with_pixels brightest_position
-    none_reaching e = go b.reached
+    none_reaching none = go (dec_lt 0 n)
       where
-        go : ((n ≡ 0) × (most ≡ 0)) ⊎ ((j : ℕ) × (j < n) × (brightest (pixel_at row.bytes j) ≡ most)) → r ≡ with_pixels r row n
-        go (inl (z, y)) = rw z
-        go (inr (j, h, y)) = absurd (equal_taken _ (rw y at (last.others j (omega arith) h)))
+        dimmer : (j : ℕ) → j < n → brightest (pixel_at row.bytes j) < most
+        dimmer j h = lt_of_le_of_ne (brightest_bounded b j h) (λ (e : brightest (pixel_at row.bytes j) ≡ most). equal_taken _ (rw e at (none j h)))
+
+        go : Dec (0 < n) → r ≡ with_pixels r row n
+        go (yes some) = absurd (omega (arith, dimmer 0 some, b.reached (most - 1) (λ j h. omega (arith, dimmer j h))))
+        go (no z) = let e : n ≡ 0 = omega arith in rw e
 
 -- no pixel of a row from count on
 abbrev pub Behind : SampleFormat → List ℕ → ℕ → ℕ → Type 0

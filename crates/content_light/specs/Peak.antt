@@ -1,15 +1,16 @@
 -- The measured peak of a title's rows (request 01; request 06, depth and range with each row; request 09, the last of equals): which rows are
 -- accepted, the last pixel that has the largest component light of all their pixels, and the peak, that light in whole cd/m2. Light is in units; rows
 -- and pixels are counted from 0.
-use Rattle.std.specs.Prelude.{ℕ, zero, suc, pred, ◌+◌, ◌/◌, Bool, cond, List, [], ◌∷◌, leb, ltb, length}
+use Rattle.std.specs.Prelude.{ℕ, zero, suc, pred, ◌+◌, ◌/◌, Bool, cond, List, [], ◌∷◌, leb, ltb, length, Result, Ok, Err}
 use Rattle.quantity.specs.declared.sample_format.SampleFormat.{SampleFormat}
 use Rattle.quantity.specs.Units.{units}
 use Rattle.pixel.specs.Conversion.{brightest_light}
 use Rattle.rows.specs.Row.{pixel_at}
 use Rattle.rows.specs.Answer.{first_refused, length_refused}
 use Rattle.pq_hlg.specs.Pixel.{sample_refused}
-use Rattle.content_light.specs.declared.PeakAnswer.{PeakAnswer}
-use Rattle.content_light.specs.declared.PeakAnswer.TheVariants.{Peak, Refused}
+use Rattle.refusal.specs.declared.Refusal.{Refusal}
+use Rattle.refusal.specs.declared.Refusal.TheVariants.{RowLength, Sample, NoPixel, RowCount}
+use Rattle.content_light.specs.declared.Peak.{Peak}
 
 -- a row with the depth and range of its samples, in which the rows of a run may differ
 pub record CodedRow : Type 0 where
@@ -28,24 +29,24 @@ pixels_of row = length row.bytes / 6
 unfoldable pub most_rows : ℕ
 most_rows = 4294967295
 
--- a row is accepted, or refused with a number and a place
+-- a row is accepted, or refused
 pub data Test : Type 0 where
   accepted : Test
-  refused : ℕ → ℕ → Test
+  refused : Refusal → Test
 
 -- the test of a row after so many accepted ones: refusal 13 where these are all that a run counts, then 6, then 9 at the first refused sample
 unfoldable pub row_test : ℕ → CodedRow → Test
 row_test rows row =
     let samples = length row.bytes / 2 in
     let i = first_refused (sample_refused row.format) row.bytes 0 samples in
-    cond (leb most_rows rows) (refused 13 0)
-    (cond (length_refused (length row.bytes)) (refused 6 0)
-    (cond (ltb i samples) (refused 9 i) accepted))
+    cond (leb most_rows rows) (refused RowCount)
+    (cond (length_refused (length row.bytes)) (refused RowLength)
+    (cond (ltb i samples) (refused (Sample i)) accepted))
 
 -- a refused row is not counted
 abbrev pub counted : Test → ℕ → ℕ
 counted accepted rows = suc rows
-counted (refused number place) rows = rows
+counted (refused refusal) rows = rows
 
 -- the test of each row in order, after so many accepted ones
 unfoldable pub tests : ℕ → List CodedRow → List Test
@@ -54,7 +55,7 @@ tests rows (row ∷ later) = let t = row_test rows row in t ∷ tests (counted t
 
 abbrev pub kept : Test → CodedRow → List CodedRow → List CodedRow
 kept accepted row later = row ∷ later
-kept (refused number place) row later = later
+kept (refused refusal) row later = later
 
 -- the accepted ones in order
 unfoldable pub accepted_rows : ℕ → List CodedRow → List CodedRow
@@ -99,11 +100,15 @@ brightest_pixel rows = after_rows none 0 rows
 unfoldable pub rounded_up : ℕ → ℕ
 rounded_up light = (light + pred units) / units
 
+-- a peak in whole cd/m2 at that row and pixel
+abbrev pub peak_at : ℕ → ℕ → ℕ → Peak
+peak_at cd row pixel = record { cd = cd; row = row; pixel = pixel }
+
 -- the peak with row and pixel, or refusal 12 where there is no pixel
-unfoldable pub peak_of : Brightest → PeakAnswer
-peak_of none = Refused 12
-peak_of (found light row pixel) = Peak (rounded_up light) row pixel
+unfoldable pub peak_of : Brightest → Result Peak Refusal
+peak_of none = Err NoPixel
+peak_of (found light row pixel) = Ok (peak_at (rounded_up light) row pixel)
 
 -- what a run over rows measures
-unfoldable pub measured : List CodedRow → PeakAnswer
+unfoldable pub measured : List CodedRow → Result Peak Refusal
 measured rows = peak_of (brightest_pixel (accepted_rows 0 rows))

@@ -1,14 +1,13 @@
 -- The record of a measuring run and what its calls answer (request 01), for every record, also those that no run makes.
 -- Positions are in 1/897,024 of the PQ signal; rows and pixels are counted from 0.
-use Rattle.std.specs.Prelude.{ℕ, zero, suc, min, ◌*◌, Bool, cond, ◌||◌, eqb}
+use Rattle.std.specs.Prelude.{ℕ, zero, suc, min, ◌*◌, Bool, cond, ◌||◌, eqb, Result, Ok, Err}
 use Rattle.quantity.specs.Units.{last_position}
 use Rattle.position.specs.Position.{light_at}
 use Rattle.pixel.specs.Conversion.{brightest_position}
 use Rattle.rows.specs.Row.{pixel_at}
+use Rattle.refusal.specs.declared.Refusal.{Refusal}
 use Rattle.content_light.specs.declared.RunRecord.{RunRecord}
-use Rattle.content_light.specs.declared.RecordAnswer.{RecordAnswer}
-use Rattle.content_light.specs.declared.RecordAnswer.TheVariants.{Measured, Refused}
-use Rattle.content_light.specs.declared.PeakAnswer.{PeakAnswer}
+use Rattle.content_light.specs.declared.Peak.{Peak}
 use Rattle.content_light.specs.Peak.{CodedRow, pixels_of, most_rows, Test, accepted, refused, row_test, outshines, Brightest, none, found, peak_of}
 
 -- the most pixels that a run counts: 8,192 in each row
@@ -56,12 +55,12 @@ with_row r row =
     let s = with_pixels r row (pixels_of row) in
     record { rows = suc s.rows; pixels = s.pixels; position = s.position; row = s.row; pixel = s.pixel }
 
-abbrev pub answer_after : Test → RunRecord → RecordAnswer
-answer_after accepted r = Measured r
-answer_after (refused number place) r = Refused number place
+abbrev pub answer_after : Test → RunRecord → Result RunRecord Refusal
+answer_after accepted r = Ok r
+answer_after (refused refusal) r = Err refusal
 
 -- what the call for a row answers: its refusal, or the record with the row in it
-unfoldable pub record_answer : RunRecord → CodedRow → RecordAnswer
+unfoldable pub record_answer : RunRecord → CodedRow → Result RunRecord Refusal
 record_answer r row = let s = record_read r in answer_after (row_test s.rows row) (with_row s row)
 
 -- the brightest pixel that a record holds
@@ -69,5 +68,5 @@ unfoldable pub held : RunRecord → Brightest
 held r = cond (eqb r.pixels 0) none (found (light_at r.position.0) r.row r.pixel)
 
 -- what the call for the result answers
-unfoldable pub peak_answer : RunRecord → PeakAnswer
+unfoldable pub peak_answer : RunRecord → Result Peak Refusal
 peak_answer r = peak_of (held (record_read r))

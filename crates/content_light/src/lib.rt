@@ -3,18 +3,19 @@
 #![tactic(auto)]
 
 mod rank;
+mod row;
 mod walk;
 
-ghost use Rattle.std.specs.Prelude.{◌≡◌, ◌≤◌};
-ghost use Rattle.quantity.specs.Units.{ten_thousand};
+ghost use Rattle.std.specs.Prelude.{◌≡◌};
 ghost use Rattle.content_light.specs.Peak.{row_in, rounded_up};
 ghost use Rattle.content_light.specs.Run.{fresh_record, record_read, record_answer, peak_answer};
 
 use position::light_at;
 use quantity::sample_format::SampleFormat;
-use quantity::{LAST_POSITION, Position, UNITS, smaller};
-use rows::refuses_length;
-use walk::{first_untaken, sample_bounds, with_row};
+use quantity::{LAST_POSITION, Position, UNITS};
+use refusal::Refusal;
+use row::BoundedRow;
+use rows::refuses_count;
 
 // The most rows that a run counts, and their most pixels, 8,192 in each.
 const MOST_ROWS: u64 = 4294967295;
@@ -26,7 +27,7 @@ const LAST_ROW: u64 = 4294967294;
 
 const LAST_PIXEL: u64 = 8191;
 
-// What a run has found so far.
+// What a run has found so far: plain numbers, also where it has met no pixel, since every record that a caller can make is read.
 #[derive(Clone, Copy)]
 pub struct RunRecord {
     // rows that were accepted
@@ -40,82 +41,81 @@ pub struct RunRecord {
     pub pixel: u64,
 }
 
-// A record with one row more, or a refusal: its number and its place.
+// A measured peak: the light in whole cd/m2, the row and the pixel in the row, both from 0.
 #[derive(Clone, Copy)]
-pub enum RecordAnswer {
-    Measured(RunRecord),
-    Refused(u64, u64),
+pub struct Peak {
+    pub cd: u64,
+    pub row: u64,
+    pub pixel: u64,
 }
 
-// A measured peak in whole cd/m2 with its row and pixel, or the number of a refusal.
-#[derive(Clone, Copy)]
-pub enum PeakAnswer {
-    Peak(u64, u64, u64),
-    Refused(u64),
-}
+#[tactic(auto, unfolding(crate::specs::Run::record_answer, crate::specs::Peak::row_test, crate::specs::Peak::most_rows, rows::specs::Answer::count_refused))]
+impl RunRecord {
+    // The record of a run that has met no row.
+    pub fn fresh() -> RunRecord
+        ensures { result ≡ fresh_record }
+    {
+        RunRecord {
+            rows: 0,
+            pixels: 0,
+            position: Position(0),
+            row: 0,
+            pixel: 0,
+        }
+    }
 
-// The record of a run that has met no row.
-pub fn fresh_record() -> RunRecord
-    ensures { result ≡ fresh_record }
-{
-    RunRecord {
-        rows: 0,
-        pixels: 0,
-        position: Position(0),
-        row: 0,
-        pixel: 0,
+    // The record with a row's pixels in it, whose samples are coded in this format. Refuses 13, then 6, then 9.
+    pub fn measure_row(self, format: SampleFormat, row: &[u8]) -> Result<RunRecord, Refusal>
+        ensures { result ≡ record_answer self (row_in format row.now) }
+    {
+        if MOST_ROWS <= self.rows {
+            return Err(Refusal::RowCount);
+        }
+        if refuses_count(row.len(), 6) {
+            return Err(Refusal::RowLength);
+        }
+        let row = BoundedRow::of(format, row);
+        if let Some(i) = row.first_untaken() {
+            return Err(Refusal::Sample(i as u64));
+        }
+        Ok(self.read().with_row(&row))
     }
-}
 
-// The record with a row's pixels in it, whose samples are coded in this format. Refuses 13, then 6, then 9.
-pub fn measure_row(run: RunRecord, format: SampleFormat, row: &[u8]) -> RecordAnswer
-    ensures { result ≡ record_answer run (row_in format row.now) }
-{
-    if MOST_ROWS <= run.rows {
-        return RecordAnswer::Refused(13, 0);
+    // The peak that a record has measured, rounded up so that no pixel lies above it. Refuses 12.
+    #[tactic(auto, unfolding(crate::specs::Run::peak_answer, crate::specs::Run::held, crate::specs::Peak::peak_of))]
+    pub fn measured_peak(self) -> Result<Peak, Refusal>
+        ensures { result ≡ peak_answer self }
+    {
+        let read = self.read();
+        if read.pixels == 0 {
+            return Err(Refusal::NoPixel);
+        }
+        Ok(Peak {
+            cd: round_up(light_at(read.position).0),
+            row: read.row,
+            pixel: read.pixel,
+        })
     }
-    if refuses_length(row.len()) {
-        return RecordAnswer::Refused(6, 0);
-    }
-    let bounds = sample_bounds(row);
-    let i = first_untaken(format, row, bounds.least, bounds.most);
-    if i < row.len() / 2 {
-        return RecordAnswer::Refused(9, i as u64);
-    }
-    RecordAnswer::Measured(with_row(read_record(run), format, row, bounds.most))
-}
 
-// The peak that a record has measured, rounded up so that no pixel lies above it. Refuses 12.
-pub fn measured_peak(run: RunRecord) -> PeakAnswer
-    ensures { result ≡ peak_answer run }
-{
-    let read = read_record(run);
-    let position = read.position;
-    let light = light_at(position);
-    if read.pixels == 0 {
-        return PeakAnswer::Refused(12);
+    // A record as it is read.
+    #[tactic(auto, unfolding(crate::specs::Peak::most_rows, crate::specs::Run::most_pixels, quantity::specs::Units::last_position))]
+    fn read(self) -> RunRecord
+        ensures { result ≡ record_read self }
+    {
+        RunRecord {
+            rows: self.rows.min(MOST_ROWS),
+            pixels: self.pixels.min(MOST_PIXELS),
+            position: Position(self.position.0.min(LAST_POSITION)),
+            row: self.row.min(LAST_ROW),
+            pixel: self.pixel.min(LAST_PIXEL),
+        }
     }
-    PeakAnswer::Peak(round_up(light.0), read.row, read.pixel)
 }
 
 // A light in whole cd/m2, rounded up.
+#[tactic(auto, unfolding(crate::specs::Peak::rounded_up, quantity::specs::Units::units))]
 fn round_up(light: u64) -> u64
-    requires { light ≤ ten_thousand }
     ensures { result ≡ rounded_up light }
 {
-    (light + (UNITS - 1)) / UNITS
-}
-
-// A record as it is read.
-fn read_record(run: RunRecord) -> RunRecord
-    ensures { result ≡ record_read run }
-{
-    let position = run.position;
-    RunRecord {
-        rows: smaller(run.rows, MOST_ROWS),
-        pixels: smaller(run.pixels, MOST_PIXELS),
-        position: Position(smaller(position.0, LAST_POSITION)),
-        row: smaller(run.row, LAST_ROW),
-        pixel: smaller(run.pixel, LAST_PIXEL),
-    }
+    light.div_ceil(UNITS)
 }

@@ -9,9 +9,11 @@ use lib.ListN.{length, drop_of_length-le, length-append, length-drop}
 use borrow.Author.Tests.{eq-eqb, ne_eqb, le-ltb}
 use Rattle.quantity.specs.declared.Source.{Source}
 use Rattle.pixel.specs.Conversion.{code}
-use Rattle.rows.specs.declared.RowAnswer.TheVariants.{Converted, Refused}
+use Rattle.std.specs.Prelude.{Result, Ok, Err}
+use Rattle.refusal.specs.declared.Refusal.{Refusal}
+use Rattle.refusal.specs.declared.Refusal.TheVariants.{Sample}
 use Rattle.rows.specs.Row.{pixel_at, converted, span_bytes}
-use Rattle.rows.specs.Answer.{first_refused, length_refused, destination_refused, span_refused, span_answer}
+use Rattle.rows.specs.Answer.{first_refused, count_refused, destination_refused, span_refused, span_answer}
 use Rattle.rows.proofs.RowLaws.{length_pixels, pixel_of_span}
 use Rattle.pq_hlg.specs.Pixel.{peak_refused, sample_refused}
 use Rattle.pq_hlg.specs.Row.{row_answer, destination_after}
@@ -19,12 +21,11 @@ use Rattle.pq_hlg.proofs.TestLaws.{row_accepted}
 use Rattle.listing.specs.Text.{lines, row_text, row_text_within, opened}
 use Rattle.listing.proofs.TextLaws.{lines_same}
 use Rattle.title.specs.declared.row_bytes.RowBytes.{RowBytes}
+use Rattle.title.specs.declared.row_bytes.RowBytes.TheVariants.{Whole, End}
 use Rattle.title.specs.Rows.{row_bytes}
 use Rattle.title.proofs.RowsLaws.{whole}
-use Rattle.converted_title.specs.declared.next_row.NextRow.{NextRow}
-use Rattle.converted_title.specs.declared.next_row.NextRow.TheVariants.{Listed, End, Refused as Stop}
 use Rattle.converted_title.specs.declared.next_row.Piece.{Piece}
-use Rattle.converted_title.specs.NextRow.{converted_text, whole_row_answer, whole_row_bytes, after_call, after_bytes, next_row, rows_left, NextPiece}
+use Rattle.converted_title.specs.NextRow.{NextRow, converted_text, whole_row_answer, whole_row_bytes, after_call, after_bytes, next_row, rows_left, NextPiece}
 
 -- the text of converted bytes, within a buffer
 pub converted_text_lem : (source : Source) (row : List ℕ) (n room : ℕ)
@@ -38,7 +39,7 @@ converted_text_lem source row n room =
     simp (eq-eqb (length bytes % 6) 0 (omega arith), pixels, text)
 
 -- a whole row that is converted fills its destination
-pub whole_destination : (source : Source) (row codes : List ℕ) → row_answer source row (length codes) 0 (length row / 6) ≡ Converted
+pub whole_destination : (source : Source) (row codes : List ℕ) → row_answer source row (length codes) 0 (length row / 6) ≡ Ok tt
     → destination_after source row codes 0 (length row / 6) ≡ whole_row_bytes source row
 unfolding destination_after
 whole_destination source row codes h =
@@ -47,26 +48,27 @@ whole_destination source row codes h =
     simp (h, n, drop_of_length-le codes {i = 6 * (length row / 6)} (omega (arith, k.same, k.pixels)), append-nil)
 
 -- a row that is refused leaves its destination
-pub destination_left : (source : Source) (row codes : List ℕ) {number place : ℕ}
-    → row_answer source row (length codes) 0 (length row / 6) ≡ Refused number place
+pub destination_left : (source : Source) (row codes : List ℕ) {refusal : Refusal}
+    → row_answer source row (length codes) 0 (length row / 6) ≡ Err refusal
     → destination_after source row codes 0 (length row / 6) ≡ codes
 unfolding destination_after
 destination_left source row codes h = simp h
 
 -- which row it is, by what came for it
-pub next_by : (source : Source) (width : ℕ) (row : List ℕ) (bytes : ℕ) {came : RowBytes} → row_bytes width row ≡ came
+pub next_by : (source : Source) (width : ℕ) (row : List ℕ) (bytes : ℕ) {came : Result RowBytes Refusal} → row_bytes width row ≡ came
     → next_row source width row bytes ≡ after_bytes came (whole_row_answer source row bytes)
 unfolding next_row
 next_by source width row bytes h = rw h
 
-after_test : (refused : Bool) (place : ℕ) → after_call (cond refused (Refused 9 place) Converted) ≡ cond refused (Stop 9) Listed
+after_test : (refused : Bool) (place : ℕ) → after_call (cond refused (Err (Sample place)) (Ok tt)) ≡ cond refused (Err (Sample place)) (Ok Whole)
 after_test true place = refl
 after_test false place = refl
 
 -- Of the row call's refusals a title's row only meets 9: peak and width are in their ranges, and the codes have the row's length.
 pub only_nine : (source : Source) (width : ℕ) (row : List ℕ) → 1 ≤ source.peak → source.peak ≤ 10000 → 1 ≤ width → width ≤ 8192 → length row ≡ 6 * width
-    → next_row source width row (length row) ≡ cond (ltb (first_refused (sample_refused source.format) row 0 (3 * width)) (3 * width)) (Stop 9) Listed
-unfolding row_answer peak_refused span_answer length_refused destination_refused span_refused
+    → let i = first_refused (sample_refused source.format) row 0 (3 * width) in
+    next_row source width row (length row) ≡ cond (ltb i (3 * width)) (Err (Sample i)) (Ok Whole)
+unfolding row_answer peak_refused span_answer count_refused destination_refused span_refused
 only_nine source width row p q v w l =
     let pixels : length row / 6 ≡ width = omega arith in
     let some = ne_eqb source.peak 0 (omega arith) in
@@ -84,7 +86,7 @@ only_nine source width row p q v w l =
 -- the piece of text that a converted row gives
 pub listed : (source : Source) (left : ℕ) (row codes text : List ℕ) {n m : ℕ} {codes' text' : List ℕ} → codes' ≡ whole_row_bytes source row
     → n ≡ length (row_text_within codes' (length text)) → text' ≡ opened (row_text_within codes' (length text)) text → m ≡ left - 1
-    → NextPiece Listed source left row codes text (record { bytes = n; left = m }) codes' text'
+    → NextPiece (Ok Whole) source left row codes text (record { bytes = n; left = m }) codes' text'
 unfolding converted_text
 listed source left row codes text {n} {m} {codes'} {text'} same k t l =
     let words = ap (λ (bytes : List ℕ). row_text_within bytes (length text)) same ∙ converted_text_lem source row (length row / 6) (length text) in
@@ -106,6 +108,6 @@ pub fewer_left : {next : NextRow} {source : Source} {left : ℕ} {row codes text
 fewer_left {next} {source} {left} {row} {codes} {text} {piece} x h = go next (ap (λ (p : Piece). p.left) x.answer)
   where
     go : (a : NextRow) → piece.left ≡ rows_left a left → piece.left < left
-    go Listed e = omega arith
-    go (Stop number) e = omega arith
-    go End e = omega arith
+    go (Ok Whole) e = omega arith
+    go (Ok End) e = omega arith
+    go (Err refusal) e = omega arith

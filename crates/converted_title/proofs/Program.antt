@@ -9,20 +9,20 @@ use native.Mathlib.Omega.{arith}
 use lib.Dec.{eqb}
 use lib.ListN.{length, take, drop, length-take}
 use borrow.Author.Tests.{ne_eqb, le-leb}
+use Rattle.std.specs.Prelude.{Result, Ok, Err}
 use Rattle.quantity.specs.declared.Source.{Source}
+use Rattle.refusal.specs.declared.Refusal.{Refusal}
+use Rattle.refusal.specs.Number.{number}
 use Rattle.listing.specs.Text.{refusal_line_within}
-use Rattle.title.specs.declared.opening.Opening.{Opening}
-use Rattle.title.specs.declared.opening.Opening.TheVariants as opening
+use Rattle.title.specs.declared.opening.Layout.{Layout}
 use Rattle.title.specs.declared.row_bytes.RowBytes.{RowBytes}
-use Rattle.title.specs.declared.row_bytes.RowBytes.TheVariants as came
+use Rattle.title.specs.declared.row_bytes.RowBytes.TheVariants.{Whole, End}
 use Rattle.title.specs.Opening.{opening_answer, rows_of}
 use Rattle.title.specs.Rows.{row_bytes, title_rows}
 use Rattle.title.proofs.OpeningLaws.{has_rows}
 use Rattle.title.proofs.RowsLaws.{at_end, whole_length, no_row, one_row}
 use Rattle.title.proofs.ReadingLaws.{read_opening, Opened, opening_read}
-use Rattle.converted_title.specs.declared.next_row.NextRow.{NextRow}
-use Rattle.converted_title.specs.declared.next_row.NextRow.TheVariants.{Listed, Refused, End}
-use Rattle.converted_title.specs.NextRow.{converted_text, next_row, piece_text, rows_left}
+use Rattle.converted_title.specs.NextRow.{NextRow, converted_text, next_row, piece_text, rows_left}
 use Rattle.converted_title.specs.Title.{with_row, rows_text, text_after, title_text}
 use Rattle.converted_title.proofs.NextRowLaws.{next_by}
 
@@ -35,9 +35,9 @@ print_rows (suc turns) source width left rest =
     cond (eqb left 0) [] (piece_text next source row 147456 ++ print_rows turns source width (rows_left next left) (drop (6 * width) rest))
 
 -- `convert_title`
-abbrev pub print_title : Opening → ℕ → List ℕ → List ℕ
-print_title (opening.Rows source width) limit rest = print_rows limit source width limit rest
-print_title (opening.Refused number) limit rest = refusal_line_within number 29
+abbrev pub print_title : Result Layout Refusal → ℕ → List ℕ → List ℕ
+print_title (Ok layout) limit rest = print_rows limit layout.source layout.width limit rest
+print_title (Err refusal) limit rest = refusal_line_within (number refusal) 29
 
 unfoldable pub program_text : ℕ → List ℕ → List ℕ
 program_text limit title =
@@ -57,10 +57,10 @@ same_next source width rest = go (row_bytes width row) refl
     row : List ℕ
     row = take (6 * width) rest
 
-    go : (b : RowBytes) → row_bytes width row ≡ b → next_row source width row (length row) ≡ next_row source width row (6 * width)
-    go came.Whole e = ap (next_row source width row) (whole_length width rest e)
-    go (came.Refused number) e = next_by source width row (length row) e ∙ sym (next_by source width row (6 * width) e)
-    go came.End e = next_by source width row (length row) e ∙ sym (next_by source width row (6 * width) e)
+    go : (b : Result RowBytes Refusal) → row_bytes width row ≡ b → next_row source width row (length row) ≡ next_row source width row (6 * width)
+    go (Ok Whole) e = ap (next_row source width row) (whole_length width rest e)
+    go (Err refusal) e = next_by source width row (length row) e ∙ sym (next_by source width row (6 * width) e)
+    go (Ok End) e = next_by source width row (length row) e ∙ sym (next_by source width row (6 * width) e)
 
 -- Piece by piece the rows' text is printed.
 pub rows_printed : (turns : ℕ) (source : Source) (width left : ℕ) (rest : List ℕ) → left ≤ turns → width ≤ 8192
@@ -81,12 +81,12 @@ rows_printed (suc turns) source width (suc left) rest h w =
     go : (next : NextRow) → print_rows turns source width left later ≡ rows_text source width (title_rows width left later)
         → piece_text next source row 147456 ++ print_rows turns source width (rows_left next (suc left)) later
         ≡ with_row next (converted_text source row) (rows_text source width (title_rows width left later))
-    go Listed again =
+    go (Ok Whole) again =
         let fits : 18 * (length row / 6) ≤ 147456 = omega (arith, length-take (6 * width) rest) in
         let one : suc left - 1 ≡ left = omega arith in
         rw (le-leb (18 * (length row / 6)) 147456 fits, one, again)
-    go (Refused number) again = rw (no_rows_left turns source width later, append-nil)
-    go End again = no_rows_left turns source width later
+    go (Err refusal) again = rw (no_rows_left turns source width later, append-nil)
+    go (Ok End) again = no_rows_left turns source width later
 
     by_length : Dec (0 < length row) → print_rows turns source width left later ≡ rows_text source width (title_rows width left later)
         → piece_text (next_row source width row (6 * width)) source row 147456
@@ -109,8 +109,8 @@ program_text_lem limit title = rw read.answer (go (opening_answer title) refl)
     rest : List ℕ
     rest = (read_opening 7 [] title).rest
 
-    go : (answer : Opening) → opening_answer title ≡ answer → print_title answer limit rest ≡ text_after answer limit (rows_of title)
-    go (opening.Rows source width) e =
-        rows_printed limit source width limit rest (omega arith) (has_rows title e).2
-        ∙ ap (λ (bytes : List ℕ). rows_text source width (title_rows width limit bytes)) (sym (read.rows source width e))
-    go (opening.Refused number) e = refl
+    go : (answer : Result Layout Refusal) → opening_answer title ≡ answer → print_title answer limit rest ≡ text_after answer limit (rows_of title)
+    go (Ok layout) e =
+        rows_printed limit layout.source layout.width limit rest (omega arith) (has_rows title e).2
+        ∙ ap (λ (bytes : List ℕ). rows_text layout.source layout.width (title_rows layout.width limit bytes)) (sym (read.rows layout e))
+    go (Err refusal) e = refl

@@ -7,79 +7,72 @@ pub mod next_row;
 ghost use Rattle.std.specs.Prelude.{◌≤◌};
 
 use next_row::list_next_row;
-use quantity::Source;
+use std::io;
 use std::io::{Read, Write};
-use title::opening::Opening;
-use title::streams::{open_title, print_refusal, read_input, write_output};
+use title::opening::Layout;
+use title::streams::{Input, print_refusal};
 
-// Converts the title on the input, of which at most so many rows are read, and prints its text on the output; a read that fails is told where errors are.
+// Converts the title on the input, of which at most so many rows are read, and prints its text on the output; a read that fails is told where errors are. A
+// write that fails ends the text, and is told to nobody.
 pub fn convert_title<R: Read, W: Write, E: Write>(
     input: &mut R,
     output: &mut W,
     errors: &mut E,
     limit: u64,
 ) {
-    let program = b"convert";
-    let opening = open_title(input, errors, program);
-    match opening {
-        Opening::Rows(source, width) => {
-            print_title(input, output, errors, program, limit, source, width)
+    let mut input = Input {
+        stream: input,
+        errors,
+        program: b"convert",
+    };
+    match input.open_title() {
+        Ok(layout) => {
+            let _ = print_title(&mut input, output, layout, limit);
         }
-        Opening::Refused(number) => print_refusal(output, number),
+        Err(refusal) => print_refusal(output, refusal.number()),
     }
 }
 
 // One row of the widest title is all that is held at a time, in bytes, codes and text.
 fn print_title<R: Read, W: Write, E: Write>(
-    input: &mut R,
+    input: &mut Input<'_, R, E>,
     output: &mut W,
-    errors: &mut E,
-    program: &[u8],
+    layout: Layout,
     limit: u64,
-    source: Source,
-    width: usize,
-)
-    requires { width ≤ 8192 }
+) -> io::Result<()>
+    requires { layout.width ≤ 8192 }
 {
     let mut row = [0u8; 49152];
     let mut codes = [0u8; 49152];
     let mut text = [0u8; 147456];
-    let bytes = 6 * width;
+    let bytes = 6 * layout.width;
     print_rows(
         input,
         output,
-        errors,
-        program,
+        layout,
         limit,
-        source,
-        width,
         &mut row[..bytes],
         &mut codes[..bytes],
         &mut text,
-    );
+    )
 }
 
-// Reads row after row and prints the text of each at once.
+// Reads row after row and prints the text of each at once. How many rows are left `list_next_row` says, whose answer `rows_left` is about.
 fn print_rows<R: Read, W: Write, E: Write>(
-    input: &mut R,
+    input: &mut Input<'_, R, E>,
     output: &mut W,
-    errors: &mut E,
-    program: &[u8],
+    layout: Layout,
     limit: u64,
-    source: Source,
-    width: usize,
     row: &mut [u8],
     codes: &mut [u8],
     text: &mut [u8],
-) {
+) -> io::Result<()> {
     let mut left = limit;
     while 0 < left {
-        let got = read_input(input, errors, program, row);
-        let piece = list_next_row(source, width, left, &row[..got], codes, text);
-        let n = piece.bytes;
-        if !write_output(output, &text[..n]) {
-            return;
-        }
+        let got = input.read(row);
+        let piece = list_next_row(layout, left, &row[..got], codes, text);
+        output.write_all(&text[..piece.bytes])?;
         left = piece.left;
     }
+    Ok(())
 }

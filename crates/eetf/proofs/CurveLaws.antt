@@ -50,7 +50,7 @@ from_knee P w M1 m end at s e a h f =
     let g = knee_curve_above P (position_of thousand) (peak_position_read w) M1 m (omega (arith, thousand_position)) in
     cc
 
--- ---- on a lent table that is the light table, at the position of a peak above 1,000 cd/m2
+-- ---- on a table that is the light table, at the position of a peak above 1,000 cd/m2
 pub on_light_table : (l : List ℕ) (L w M1 m : ℕ) → 1000 < L → l ≡ light_table → w ≡ position_of (L * units) →
     knee_curve (entry_in l) (position_of thousand) (peak_position_read w) M1 m ≡ bent_light L M1 m
 unfolding light_entry

@@ -5,7 +5,8 @@ use mathlib.Core.Bool.{true}
 use Prim.Native.Nat.{ℕ, ◌≤◌, ◌<◌}
 use native.Mathlib.Nat.{lt_irrefl}
 use native.Mathlib.Omega.{arith}
-use Rattle.laws.proofs.LargestLaws.{Falling, Found, found, passes_le, grows}
+use Rattle.laws.specs.Largest.{Falling}
+use Rattle.laws.proofs.LargestLaws.{Found, found, passes_le, grows}
 use Rattle.hlg_steps.specs.StepTable.{step}
 use Rattle.hlg_steps.proofs.StepLaws.{steps_grow}
 use Rattle.hlg.specs.Code.{luminance, reaches, hlg_code}

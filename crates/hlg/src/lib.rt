@@ -3,71 +3,45 @@
 
 mod reach;
 
-ghost use Rattle.std.specs.Prelude.{◌≡◌, ℕ, min, ◌+◌, ◌^◌, ◌<◌};
-ghost use Rattle.laws.specs.Largest.{largest};
+ghost use Rattle.std.specs.Prelude.{◌≡◌, min, ◌^◌, ◌<◌};
 ghost use Rattle.quantity.specs.Units.{thousand};
-ghost use Rattle.hlg_steps.specs.StepTable.{step_table, step};
-ghost use Rattle.hlg.specs.Code.{luminance, reaches, HlgCodes};
+ghost use Rattle.hlg.specs.Code.{luminance, hlg_code, HlgCodes};
 
-use hlg_steps::{step_in, step_table};
-use quantity::{DisplayLight, THOUSAND, smaller};
+use hlg_steps::step_of;
+use laws::largest;
+use quantity::{DisplayLight, Rgb, THOUSAND};
 use reach::reached;
 
-// The HLG codes of a pixel, 64 to 1,019 each.
-#[derive(Clone, Copy)]
-pub struct Codes {
-    pub red: u64,
-    pub green: u64,
-    pub blue: u64,
-}
-
-// The HLG codes of three mapped components. The steps are filled once for the three.
-pub fn hlg_codes(red: DisplayLight, green: DisplayLight, blue: DisplayLight) -> Codes
-    ensures { HlgCodes (min red.0 thousand) (min green.0 thousand) (min blue.0 thousand) result.red result.green result.blue }
+// The HLG codes of three mapped components, 64 to 1,019 each.
+#[tactic(auto, unfolding(quantity::specs::Units::thousand, quantity::specs::Units::units))]
+pub fn hlg_codes(p: Rgb<DisplayLight>) -> Rgb<u64>
+    ensures { HlgCodes (min p.red.0 thousand) (min p.green.0 thousand) (min p.blue.0 thousand) result.red result.green result.blue }
 {
-    let y = luminance_of(red, green, blue);
-    let r = read_component(red);
-    let g = read_component(green);
-    let b = read_component(blue);
-    let steps = step_table();
-    Codes {
-        red: search_code(&steps, y, r, 64, 955),
-        green: search_code(&steps, y, g, 64, 955),
-        blue: search_code(&steps, y, b, 64, 955),
-    }
+    let y = luminance_of(p);
+    p.map(|light| code_of(y, read_component(light)))
 }
 
 // Y of three mapped components, in ten-thousandths of a unit: BT.2100's weights are whole numbers there.
-pub fn luminance_of(red: DisplayLight, green: DisplayLight, blue: DisplayLight) -> u64
-    ensures { result ≡ luminance (min red.0 thousand) (min green.0 thousand) (min blue.0 thousand) }
+#[tactic(auto, unfolding(quantity::specs::Units::thousand, quantity::specs::Units::units))]
+pub fn luminance_of(p: Rgb<DisplayLight>) -> u64
+    ensures { result ≡ luminance (min p.red.0 thousand) (min p.green.0 thousand) (min p.blue.0 thousand) }
 {
-    let r = read_component(red);
-    let g = read_component(green);
-    let b = read_component(blue);
-    2627 * r.0 + 6780 * g.0 + 593 * b.0
+    p.map(|light| read_component(light).0).weighted()
 }
 
 // A mapped component as read. The delivery shows up to 1,000 cd/m2: a component above that is read as that.
+#[tactic(auto, unfolding(quantity::specs::Units::thousand, quantity::specs::Units::units))]
 fn read_component(light: DisplayLight) -> DisplayLight
     ensures { result.0 ≡ min light.0 thousand }
 {
-    DisplayLight(smaller(light.0, THOUSAND))
+    DisplayLight(light.0.min(THOUSAND))
 }
 
-// The largest of the codes from + 1 .. from + span that a component r reaches in a pixel of luminance y, else from. The span falls.
-fn search_code(steps: &[u64; 955], y: u64, r: DisplayLight, from: u64, span: u64) -> u64
-    requires { (steps.now ≡ step_table) × (y < 2 ^ 48) × (r.0 < 2 ^ 34) × (from + span < 2 ^ 64) }
-    ensures { result ≡ largest (λ (d : ℕ). reaches (step d) y r.0) from span }
+// The code of a component r in a pixel of luminance y: the largest whose step it reaches.
+#[tactic(auto, using(hlg_steps::proofs::StepLaws::step_fits))]
+fn code_of(y: u64, r: DisplayLight) -> u64
+    requires { (y < 2 ^ 48) × (r.0 < 2 ^ 34) }
+    ensures { result ≡ hlg_code y r.0 }
 {
-    if span == 0 {
-        return from;
-    }
-    let above = span / 2;
-    let half = span - above;
-    let middle = from + half;
-    if reached(step_in(steps, middle), y, r) {
-        search_code(steps, y, r, middle, above)
-    } else {
-        search_code(steps, y, r, from, half - 1)
-    }
+    largest(&|d| reached(step_of(d), y, r), 64, 1019)
 }

@@ -1,6 +1,6 @@
 // Made by `python3 tools/hlg_steps.py source`. Entry d - 65 is the step T[d] of the HLG code d: the smallest scene light whose signal
 // rounds to d or more, in 1/2^40 of the nominal range. 955 entries from 119,402 to 1,797,803,271,973, rising.
-pub const TABLE: [u64; 955] = [
+pub static TABLE: [u64; 955] = [
     119402,
     1074615,
     2985042,

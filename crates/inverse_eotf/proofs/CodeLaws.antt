@@ -8,7 +8,8 @@ use native.Mathlib.Decide.{dec_le}
 use native.Mathlib.Omega.{arith}
 use lib.Dec.{leb}
 use borrow.Author.Tests.{leb-true, le-leb, lt-leb}
-use Rattle.laws.proofs.LargestLaws.{Falling, at_most_falls, Found, found, found_is, passes_le, grows}
+use Rattle.laws.specs.Largest.{Falling}
+use Rattle.laws.proofs.LargestLaws.{at_most_falls, Found, found, found_is, passes_le, grows}
 use Rattle.pq.proofs.EntryLaws.{entry_first, entries_grow, entries_grow_strictly}
 use Rattle.inverse_eotf.specs.Code.{threshold_light, pq_code}
 

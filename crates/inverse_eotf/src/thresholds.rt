@@ -1,6 +1,6 @@
 // Made by `python3 tools/thresholds.py source`. Entry D - 65 is the threshold of the PQ code D: the light half a code below it, in 1/16,777,216 cd/m2.
 // 876 entries from 271 to 166,859,836,981, rising.
-pub const TABLE: [u64; 876] = [
+pub static TABLE: [u64; 876] = [
     271,
     1756,
     4201,

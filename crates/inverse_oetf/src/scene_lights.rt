@@ -1,6 +1,6 @@
 // Made by `python3 tools/scene_lights.py source`. Entry d - 64 is the scene light of the HLG code d, to the nearest, in 1/2^40 of the nominal range.
 // 956 entries from 0 to 1,803,467,062,476, rising.
-pub const TABLE: [u64; 956] = [
+pub static TABLE: [u64; 956] = [
     0,
     477607,
     1910427,

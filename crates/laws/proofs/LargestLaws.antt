@@ -8,7 +8,7 @@ use native.Mathlib.Decide.{dec_le}
 use native.Mathlib.Omega.{arith}
 use lib.Dec.{leb}
 use borrow.Author.Tests.{leb-false, lt-leb}
-use Rattle.laws.specs.Largest.{choose, largest}
+use Rattle.laws.specs.Largest.{choose, largest, Falling}
 
 here : (f : ℕ → Bool) (lo m : ℕ) → f (lo + m) ≡ true → largest f lo m ≡ lo + m
 unfolding largest
@@ -86,11 +86,7 @@ grows f g lo n imp = go (found f lo n).passes
     go (inl e) = omega (arith, (found g lo n).from)
     go (inr t) = passes_le g lo n (largest f lo n) (found f lo n).to (imp (largest f lo n) t)
 
--- ---- halving, for any test that fails from where it fails once
-pub record Falling (f : ℕ → Bool) : Type 0 where
-  pub on : (j k : ℕ) → j ≤ k → f j ≡ false → f k ≡ false
-
--- as the test that what grows is at most l
+-- ---- halving, for any test that fails from where it fails once, as the test that what grows is at most l
 pub at_most_falls : (g : ℕ → ℕ) (l : ℕ) → ((j k : ℕ) → j ≤ k → g j ≤ g k) → Falling (λ k. leb (g k) l)
 at_most_falls g l grows = record { on = λ j k h e. lt-leb (g k) l (lt_of_lt_of_le (leb-false (g j) l e) (grows j k h)) }
 

@@ -9,8 +9,8 @@ use native.Mathlib.Decide.{dec_le}
 use native.Mathlib.Omega.{arith}
 use lib.Dec.{leb}
 use borrow.Author.Tests.{leb-true, le-leb, lt-leb}
-use Rattle.laws.specs.Largest.{largest}
-use Rattle.laws.proofs.LargestLaws.{Falling, at_most_falls, Found, found, found_is, passes_le, grows}
+use Rattle.laws.specs.Largest.{largest, Falling}
+use Rattle.laws.proofs.LargestLaws.{at_most_falls, Found, found, found_is, passes_le, grows}
 
 module _ (threshold : ℕ → ℕ) (lo n : ℕ) where
   abbrev pub reached_by : ℕ → ℕ → Bool

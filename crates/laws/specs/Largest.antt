@@ -1,5 +1,5 @@
 -- The largest number of a range that passes a test.
-use Rattle.std.specs.Prelude.{Bool, true, false, ℕ, zero, suc, ◌+◌}
+use Rattle.std.specs.Prelude.{◌≡◌, Bool, true, false, ℕ, zero, suc, ◌+◌, ◌≤◌}
 
 abbrev pub choose : Bool → ℕ → ℕ → ℕ
 choose true a b = a
@@ -9,3 +9,7 @@ choose false a b = b
 unfoldable pub largest : (ℕ → Bool) → ℕ → ℕ → ℕ
 largest f lo zero = lo
 largest f lo (suc n) = choose (f (lo + suc n)) (lo + suc n) (largest f lo n)
+
+-- a test that fails from where it fails once
+pub record Falling (f : ℕ → Bool) : Type 0 where
+  pub on : (j k : ℕ) → j ≤ k → f j ≡ false → f k ≡ false

@@ -1,9 +1,9 @@
 -- Values at the borders of their classes, and lights of some, computed.
-use Rattle.std.proofs.Common.{◌≡◌, true, false, pos, negsuc, refl}
+use Rattle.std.proofs.Common.{◌≡◌, true, false, pos, negsuc, refl, Ok, Err}
 use lib.Ieee.{Float, nan, inf, fin, lt}
 use Rattle.quantity.specs.Units.{units, ten_thousand}
 use Rattle.linear_light.specs.declared.LightClass.TheVariants.{Light, Negative, TooBright}
-use Rattle.linear_light.specs.declared.ClassAnswer.TheVariants.{Classed, Refused}
+use Rattle.refusal.specs.declared.Refusal.TheVariants.{NotFinite}
 use Rattle.linear_light.specs.LinearLight.{class_of, finite, class_answer, magnitude, exact_light, whole_light}
 
 -- −0, the smallest values beside 0, 10,000 and the next above it, 10,000 + 1/1,024
@@ -23,14 +23,14 @@ abbrev next_above : Float
 next_above = fin false 10240001 (negsuc 9)
 
 -- −0 and 10,000 are light
-pub classes : (class_answer negative_zero ≡ Classed (Light negative_zero)) × (class_answer least_above ≡ Classed (Light least_above))
-    × (class_answer least_below ≡ Classed (Negative least_below)) × (class_answer most ≡ Classed (Light most))
-    × (class_answer next_above ≡ Classed (TooBright next_above))
+pub classes : (class_answer negative_zero ≡ Ok (Light negative_zero)) × (class_answer least_above ≡ Ok (Light least_above))
+    × (class_answer least_below ≡ Ok (Negative least_below)) × (class_answer most ≡ Ok (Light most))
+    × (class_answer next_above ≡ Ok (TooBright next_above))
 unfolding class_answer finite class_of lt
 classes = (refl, refl, refl, refl, refl)
 
 -- what is infinite or no number has no class
-pub refusals : (class_answer nan ≡ Refused 16 0) × (class_answer (inf false) ≡ Refused 16 0) × (class_answer (inf true) ≡ Refused 16 0)
+pub refusals : (class_answer nan ≡ Err (NotFinite 0)) × (class_answer (inf false) ≡ Err (NotFinite 0)) × (class_answer (inf true) ≡ Err (NotFinite 0))
 unfolding class_answer finite
 refusals = (refl, refl, refl)
 

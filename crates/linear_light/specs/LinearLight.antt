@@ -1,13 +1,13 @@
 -- Display light given as a 32-bit float in cd/m2 (request 11; document 001, section 7.13): the class of a value, what it counts as, and its light. A value
 -- is what the 32 bits stand for: `fin s m e` is m × 2^e, negative where s is true, beside infinities and what is no number.
-use Rattle.std.specs.Prelude.{ℕ, ◌*◌, ◌/◌, ◌^◌, Bool, true, false, cond, pos, Float}
+use Rattle.std.specs.Prelude.{ℕ, ◌*◌, ◌/◌, ◌^◌, Bool, true, false, cond, pos, Float, Result, Ok, Err}
 use Rattle.std.specs.Float.{nan, inf, fin}
 use Rattle.std.specs.Float.Ieee.{up, down, lt}
 use Rattle.quantity.specs.Units.{units}
 use Rattle.linear_light.specs.declared.LightClass.{LightClass}
 use Rattle.linear_light.specs.declared.LightClass.TheVariants.{Light, Negative, TooBright}
-use Rattle.linear_light.specs.declared.ClassAnswer.{ClassAnswer}
-use Rattle.linear_light.specs.declared.ClassAnswer.TheVariants.{Classed, Refused}
+use Rattle.refusal.specs.declared.Refusal.{Refusal}
+use Rattle.refusal.specs.declared.Refusal.TheVariants.{NotFinite}
 
 -- 0 and 10,000 cd/m2; 10,000 is 625 × 2^4
 abbrev pub no_light : Float
@@ -27,8 +27,8 @@ finite (inf s) = false
 finite (fin s m e) = true
 
 -- what classing one value answers: its class with the value as given, or the refusal, whose place is 0
-unfoldable pub class_answer : Float → ClassAnswer
-class_answer x = cond (finite x) (Classed (class_of x)) (Refused 16 0)
+unfoldable pub class_answer : Float → Result LightClass Refusal
+class_answer x = cond (finite x) (Ok (class_of x)) (Err (NotFinite 0))
 
 -- the value that a class counts as
 abbrev pub counted_as : LightClass → Float

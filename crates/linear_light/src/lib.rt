@@ -5,20 +5,18 @@
 ghost use Rattle.std.specs.Prelude.{◌≡◌, ◌-◌, ◌*◌, ◌/◌, ◌^◌, ◌≤◌, min, true, false, length};
 ghost use Rattle.std.specs.Float.Ieee.{lt};
 ghost use Rattle.quantity.specs.Units.{units};
+ghost use Rattle.rows.specs.Answer.{before};
 ghost use Rattle.linear_light.specs.LinearLight.{no_light, most_light, class_of, finite, class_answer, counted_as, magnitude, whole_light};
-ghost use Rattle.linear_light.specs.Row.{values_refused, first_not_finite, linear_span_answer};
+ghost use Rattle.linear_light.specs.Row.{first_not_finite, linear_span_answer};
 
-use quantity::DisplayLight;
-use rows::{RowAnswer, fewer, refuses_span};
+use quantity::{DisplayLight, Rgb};
+use refusal::Refusal;
+use rows::elements::test_elements;
 use std::num::truncating_f64_to_u64;
+use std::ops::Range;
 
 // A linear pixel as it is read, before its values are classed.
-#[derive(Clone, Copy)]
-pub struct LinearPixel {
-    pub red: f32,
-    pub green: f32,
-    pub blue: f32,
-}
+pub type LinearPixel = Rgb<f32>;
 
 // A value from 0 to 10,000 cd/m2, below or above; each with the value as given.
 #[derive(Clone, Copy)]
@@ -28,52 +26,47 @@ pub enum LightClass {
     TooBright(f32),
 }
 
-// The class of a value, or a refusal: its number and its place.
-#[derive(Clone, Copy)]
-pub enum ClassAnswer {
-    Classed(LightClass),
-    Refused(u64, u64),
+impl LightClass {
+    fn of(x: f32) -> LightClass
+        ensures { result ≡ class_of x }
+    {
+        if x < 0.0 {
+            LightClass::Negative(x)
+        } else if 10000.0 < x {
+            LightClass::TooBright(x)
+        } else {
+            LightClass::Light(x)
+        }
+    }
+
+    // The value that it counts as.
+    fn counted(self) -> f32
+        ensures { result ≡ counted_as self }
+    {
+        match self {
+            LightClass::Light(x) => x,
+            LightClass::Negative(_) => 0.0,
+            LightClass::TooBright(_) => 10000.0,
+        }
+    }
 }
 
 // The class of one value. Refuses 16, with place 0.
-pub fn class_of_value(x: f32) -> ClassAnswer
+#[tactic(auto, unfolding(crate::specs::LinearLight::class_answer))]
+pub fn class_of_value(x: f32) -> Result<LightClass, Refusal>
     ensures { result ≡ class_answer x }
 {
-    if is_finite(x) {
-        return ClassAnswer::Classed(class_of(x));
+    if !is_finite(x) {
+        return Err(Refusal::NotFinite(0));
     }
-    ClassAnswer::Refused(16, 0)
+    Ok(LightClass::of(x))
 }
 
 // The light of a value as it counts, in whole units. What is no number has none, and an infinity counts as the end that it lies past.
 pub fn light_of_value(x: f32) -> DisplayLight
     ensures { result.0 ≡ whole_light x }
 {
-    let class = class_of(x);
-    DisplayLight(whole_light(counted(class)))
-}
-
-fn class_of(x: f32) -> LightClass
-    ensures { result ≡ class_of x }
-{
-    if x < 0.0 {
-        return LightClass::Negative(x);
-    }
-    if 10000.0 < x {
-        return LightClass::TooBright(x);
-    }
-    LightClass::Light(x)
-}
-
-// The value that a class counts as.
-fn counted(class: LightClass) -> f32
-    ensures { result ≡ counted_as class }
-{
-    match class {
-        LightClass::Light(x) => x,
-        LightClass::Negative(_) => 0.0,
-        LightClass::TooBright(_) => 10000.0,
-    }
+    DisplayLight(whole_light(LightClass::of(x).counted()))
 }
 
 // The whole part of the exact product with 16,777,216: 64 bits hold the product of every 32-bit float with that power of two unrounded.
@@ -87,55 +80,34 @@ fn whole_light(x: f32) -> u64
     0
 }
 
-// Whether a value is a number: an infinity less itself is none, and what is no number stays so.
+// Whether a value is a number.
 pub fn is_finite(x: f32) -> bool
     ensures { result ≡ finite x }
 {
-    x - x == 0.0
+    x.is_finite()
 }
 
-// Tests 15, 7, 8 and 16 in their order, for the pixels first to end - 1 of a row and a destination of so many bytes.
-pub fn test_linear_span(row: &[f32], bytes: usize, first: usize, end: usize) -> RowAnswer
-    ensures { result ≡ linear_span_answer row.now bytes first end }
+// Tests 15, 7, 8 and 16 in their order, for the pixels of a span of a row and a destination of so many bytes.
+#[tactic(auto, unfolding(crate::specs::Row::linear_span_answer))]
+pub fn test_linear_span(row: &[f32], bytes: usize, span: Range<usize>) -> Result<(), Refusal>
+    ensures { result ≡ linear_span_answer row.now bytes span.start span.end }
 {
-    if refuses_values(row.len()) {
-        return RowAnswer::Refused(15, 0);
+    test_elements(Refusal::ValueCount, row.len(), bytes, span.start..span.end)?;
+    match first_not_finite(row, 3 * span.start..3 * span.end) {
+        Some(i) => Err(Refusal::NotFinite(i as u64)),
+        None => Ok(()),
     }
-    if bytes != 2 * row.len() {
-        return RowAnswer::Refused(7, 0);
-    }
-    if refuses_span(row.len() / 3, first, end) {
-        return RowAnswer::Refused(8, 0);
-    }
-    let i = first_not_finite(row, 3 * first, 3 * end);
-    if i < 3 * end {
-        return RowAnswer::Refused(16, i as u64);
-    }
-    RowAnswer::Converted
 }
 
-// Test 15: no row has more than 8,192 pixels.
-pub fn refuses_values(n: usize) -> bool
-    ensures { result ≡ values_refused n }
+// The first value of a part of a row that is infinite or no number.
+pub fn first_not_finite(row: &[f32], values: Range<usize>) -> Option<usize>
+    ensures { let end = min values.end (length row.now) in
+        result ≡ before end (first_not_finite row.now values.start (end - values.start)) }
 {
-    if n % 3 != 0 {
-        return true;
-    }
-    24576 < n
-}
-
-// The first of the row's values from .. to that is infinite or no number; where none is, the one after them.
-pub fn first_not_finite(row: &[f32], from: usize, to: usize) -> usize
-    ensures { result ≡ first_not_finite row.now from (min to (length row.now) - from) }
-{
-    let last = fewer(to, row.len());
-    let mut i = from;
-    while i < last {
-        if is_finite(row[i]) {
-            i += 1;
-        } else {
-            return i;
+    for i in values.start..values.end.min(row.len()) {
+        if !is_finite(row[i]) {
+            return Some(i);
         }
     }
-    i
+    None
 }

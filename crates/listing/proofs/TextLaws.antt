@@ -1,14 +1,15 @@
 -- Laws of the printed text, from its definitions: a number's digits one by one, how many there are, and a text stored piece by piece.
-use mathlib.Core.Path.{◌≡◌, refl, sym, ◌∙◌}
+use mathlib.Core.Path.{◌≡◌, refl, sym, ap, ◌∙◌}
 use mathlib.Core.List.{List, [], ◌∷◌, ◌++◌, append_assoc}
-use Prim.Native.Nat.{ℕ, zero, suc, ◌+◌, ◌/◌, ◌%◌, ◌^◌, ◌≤◌, ◌<◌}
+use Prim.Native.Nat.{ℕ, zero, suc, ◌+◌, ◌-◌, ◌/◌, ◌%◌, ◌^◌, ◌≤◌, ◌<◌}
 use native.Mathlib.Nat.{add-suc, suc-add, add-zero, zero-add, pow-suc, div-lt_iff_lt-mul}
 use native.Mathlib.Numerals.{add-one}
 use native.Mathlib.Omega.{arith}
 use native.Mathlib.Decide.{dec_lt}
-use lib.ListN.{length, length-append, set}
-use lib.Seq.{sets, sets-eq}
+use lib.ListN.{length, length-append, set, take, drop}
+use lib.Seq.{sets, sets-eq, length-sets}
 use borrow.Author.Tests.{lt-ltb, le-ltb}
+use borrow.Rule.Slice.PartMut.{put_mid, post_of, Post-is}
 use Rattle.quantity.specs.Component.{Component, red, green, blue, Pixel, pixel}
 use Rattle.listing.specs.Text.{digit, digits_of, decimal, space, line_feed, line, lines, refusal_line, Stored, opened}
 
@@ -31,6 +32,9 @@ decimal_more zero h = absurd (omega arith)
 decimal_more (suc n) h =
     simp (le-ltb (suc n) 10 h, digits_same n (suc n / 10) (suc n / 10) (omega arith) (omega arith))
 
+pub decimal_parts : (n : ℕ) → 10 ≤ n → decimal n ≡ decimal (n / 10) ++ decimal (n % 10)
+decimal_parts n h = decimal_more n h ∙ ap (λ (l : List ℕ). decimal (n / 10) ++ l) (sym (decimal_digit (n % 10) (omega arith)))
+
 -- a number below a power of ten has at most as many digits
 pub length_decimal : (k n : ℕ) → n < 10 ^ suc k → length (decimal n) ≤ suc k
 length_decimal zero n h = rw (decimal_digit n h) (omega arith)
@@ -52,6 +56,23 @@ after {xs} {ys} {before} {between} {after} {at} {next} {end} p q =
       place = simp length-append (omega (arith, p.place, q.place));
       bytes = q.bytes ∙ rw (p.bytes, p.place) (sym (sets_append before at xs ys));
     }
+
+-- a part of a buffer that was copied from a text
+pub part_stored : (text before part : List ℕ) (at : ℕ) → at + length text ≤ length before → part ≡ text
+    → Stored text at (at + length text) before (put_mid at (at + length text - at) before part)
+part_stored text before part at h e =
+    record {
+      place = refl;
+      bytes =
+          ap (λ (l : List ℕ). take at before ++ (l ++ post_of at (at + length text - at) before)) e
+          ∙ ap (λ (l : List ℕ). take at before ++ (text ++ l)) (Post-is at (at + length text) before (omega arith))
+          ∙ sym (append_assoc (take at before) text (drop (at + length text) before)) ∙ sym (sets-eq text before at h);
+    }
+
+-- what comes after a text has the room that is left
+pub room_after : {text before after : List ℕ} {at next : ℕ} (more : ℕ) → Stored text at next before after → at + (length text + more) ≤ length before
+    → next + more ≤ length after
+room_after {text} {before} {after} {at} more p h = omega (arith, p.place, ap length p.bytes, length-sets before at text)
 
 -- a text that was put at the start
 pub from_start : {text before after : List ℕ} {next : ℕ} → Stored text 0 next before after → length text ≤ length before

@@ -1,96 +1,84 @@
 // What the programs print: a line for each pixel of a converted row, its three codes in decimal; a line of three numbers; the line of a refusal.
 #![tactic(auto)]
 
-ghost use Rattle.std.specs.Prelude.{◌≡◌, ◌+◌, ◌*◌, ◌≤◌, ◌<◌, [], ◌∷◌, ◌++◌, length};
-ghost use Rattle.quantity.specs.Component.{pixel};
-ghost use Rattle.rows.specs.Row.{pixel_at};
-ghost use Rattle.listing.specs.Text.{decimal, line, lines, row_text_within, line_within, refused_word, refusal_line_within, Stored, opened};
+ghost use Rattle.std.specs.Prelude.{◌≡◌, ◌+◌, ◌*◌, ◌≤◌, ◌<◌, length};
+ghost use Rattle.quantity.specs.Component.{pixel, components};
+ghost use Rattle.listing.specs.Text.{decimal, line, row_text_within, line_within, refusal_line_within, Stored, opened};
 
-use rows::sample_at;
+use quantity::Rgb;
+use rows::pixel_of;
 
-// One character at a place of the text; the place after it.
-fn put(text: &mut [u8], at: usize, character: u8) -> usize
-    requires { at < length text.old }
-    ensures { Stored (character ∷ []) at result text.old text.new }
-{
-    text[at] = character;
-    at + 1
+// A buffer in which a text stands up to `end`.
+#[derive(Drop)]
+struct Text<'a> {
+    buffer: &'a mut [u8],
+    end: usize,
 }
 
-// The character of a number below 10.
-fn digit_of(n: u64) -> u8
-    requires { n < 10 }
-    ensures { result ≡ 48 + n }
-{
-    48 + n as u8
-}
-
-// A number in decimal at a place of the text; the place after it.
-fn put_decimal(text: &mut [u8], at: usize, n: u64) -> usize
-    requires { at + length (decimal n) ≤ length text.old }
-    ensures { Stored (decimal n) at result text.old text.new }
-{
-    if n < 10 {
-        return put(text, at, digit_of(n));
+impl Text<'_> {
+    // These bytes, which the text ends in then.
+    #[tactic(auto, using(crate::proofs::TextLaws::part_stored))]
+    fn put(&mut self, part: &[u8])
+        requires { self.old.end + length part.now ≤ length self.old.buffer.now }
+        ensures stored { Stored part.now self.old.end self.new.end self.old.buffer.now self.new.buffer.now }
+        ensures same_buffer { self.new.buffer.ghost_name ≡ self.old.buffer.ghost_name }
+    {
+        let end = self.end + part.len();
+        self.buffer[self.end..end].copy_from_slice(part);
+        self.end = end;
     }
-    let last = put_decimal(text, at, n / 10);
-    put(text, last, digit_of(n % 10))
-}
 
-// A number in decimal and the character that follows it; the place after both.
-fn put_number(text: &mut [u8], at: usize, n: u64, follower: u8) -> usize
-    requires { at + length (decimal n) < length text.old }
-    ensures { Stored (decimal n ++ (follower ∷ [])) at result text.old text.new }
-{
-    let end = put_decimal(text, at, n);
-    put(text, end, follower)
-}
-
-// A pixel's line at a place of the text; the place after it.
-fn put_line(text: &mut [u8], at: usize, red: u64, green: u64, blue: u64) -> usize
-    requires { at + length (line (pixel red green blue)) ≤ length text.old }
-    ensures { Stored (line (pixel red green blue)) at result text.old text.new }
-{
-    let from_green = put_number(text, at, red, b' ');
-    let from_blue = put_number(text, from_green, green, b' ');
-    put_number(text, from_blue, blue, b'\n')
-}
-
-// The lines of the pixels at the start of the text; their length.
-fn put_lines(codes: &[u8], text: &mut [u8], pixels: usize) -> usize
-    requires { (6 * pixels ≤ length codes.now) × (18 * pixels ≤ length text.old) }
-    ensures { Stored (lines (pixel_at codes.now) pixels) 0 result text.old text.new × (result ≤ 18 * pixels) }
-{
-    let mut at = 0;
-    let mut j = 0;
-    while j < pixels {
-        let red = sample_at(codes, 3 * j);
-        let green = sample_at(codes, 3 * j + 1);
-        let blue = sample_at(codes, 3 * j + 2);
-        at = put_line(text, at, red, green, blue);
-        j += 1;
+    // A number in decimal, by hand: of what `write!` leaves in a buffer std has no clause that names its bytes.
+    fn put_number(&mut self, n: u64)
+        requires { self.old.end + length (decimal n) ≤ length self.old.buffer.now }
+        ensures stored { Stored (decimal n) self.old.end self.new.end self.old.buffer.now self.new.buffer.now }
+        ensures same_buffer { self.new.buffer.ghost_name ≡ self.old.buffer.ghost_name }
+    {
+        if n < 10 {
+            return self.put(&[b'0' + n as u8]);
+        }
+        self.put_number(n / 10);
+        self.put_number(n % 10);
     }
-    at
+
+    // A pixel's line.
+    fn put_line(&mut self, p: Rgb<u64>)
+        requires { self.old.end + length (line (components p)) ≤ length self.old.buffer.now }
+        ensures stored { Stored (line (components p)) self.old.end self.new.end self.old.buffer.now self.new.buffer.now }
+        ensures same_buffer { self.new.buffer.ghost_name ≡ self.old.buffer.ghost_name }
+    {
+        self.put_number(p.red);
+        self.put(b" ");
+        self.put_number(p.green);
+        self.put(b" ");
+        self.put_number(p.blue);
+        self.put(b"\n");
+    }
 }
 
 // The text of a row of codes, two bytes each, high byte first, at the start of a buffer; its length. The buffer needs 18 bytes for each pixel:
 // where it has fewer, or the bytes are not whole pixels, nothing is written.
+#[tactic(auto, unfolding(crate::specs::Text::row_text_within))]
 pub fn list_row(codes: &[u8], text: &mut [u8]) -> usize
     ensures { (result ≡ length (row_text_within codes.now (length text.old)))
         × (text.new ≡ opened (row_text_within codes.now (length text.old)) text.old) }
 {
-    if codes.len() % 6 != 0 {
+    if !codes.len().is_multiple_of(6) || text.len() / 18 < codes.len() / 6 {
         return 0;
     }
-    let pixels = codes.len() / 6;
-    if text.len() / 18 < pixels {
-        return 0;
+    let mut lines = Text {
+        buffer: text,
+        end: 0,
+    };
+    for bytes in codes.chunks_exact(6) {
+        lines.put_line(pixel_of(bytes));
     }
-    put_lines(codes, text, pixels)
+    lines.end
 }
 
 // The line of three numbers at the start of a buffer; its length. The buffer needs 63 bytes, room for every three: where it has fewer, nothing is
-// written.
+// written. Of any meaning, they are no pixel: a title's peak has a row and a pixel beside it.
+#[tactic(auto, unfolding(crate::specs::Text::line_within))]
 pub fn list_line(first: u64, second: u64, third: u64, text: &mut [u8]) -> usize
     ensures { (result ≡ length (line_within (pixel first second third) (length text.old)))
         × (text.new ≡ opened (line_within (pixel first second third) (length text.old)) text.old) }
@@ -98,27 +86,21 @@ pub fn list_line(first: u64, second: u64, third: u64, text: &mut [u8]) -> usize
     if text.len() < 63 {
         return 0;
     }
-    put_line(text, 0, first, second, third)
-}
-
-// `refused` and a space at the start of the text; the place after them.
-fn put_word(text: &mut [u8]) -> usize
-    requires { 8 ≤ length text.old }
-    ensures { Stored refused_word 0 result text.old text.new }
-{
-    text[0] = b'r';
-    text[1] = b'e';
-    text[2] = b'f';
-    text[3] = b'u';
-    text[4] = b's';
-    text[5] = b'e';
-    text[6] = b'd';
-    text[7] = b' ';
-    8
+    let mut line = Text {
+        buffer: text,
+        end: 0,
+    };
+    line.put_line(Rgb {
+        red: first,
+        green: second,
+        blue: third,
+    });
+    line.end
 }
 
 // The line of a refusal at the start of a buffer; its length. The buffer needs 29 bytes, room for every number: where it has fewer, nothing is
-// written.
+// written. It takes the number and no `Refusal`: the clause lists any number, and a parameter may not become narrower.
+#[tactic(auto, unfolding(crate::specs::Text::refusal_line_within))]
 pub fn list_refusal(number: u64, text: &mut [u8]) -> usize
     ensures { (result ≡ length (refusal_line_within number (length text.old)))
         × (text.new ≡ opened (refusal_line_within number (length text.old)) text.old) }
@@ -126,6 +108,12 @@ pub fn list_refusal(number: u64, text: &mut [u8]) -> usize
     if text.len() < 29 {
         return 0;
     }
-    let from_number = put_word(text);
-    put_number(text, from_number, number, b'\n')
+    let mut line = Text {
+        buffer: text,
+        end: 0,
+    };
+    line.put(b"refused ");
+    line.put_number(number);
+    line.put(b"\n");
+    line.end
 }

@@ -9,35 +9,35 @@ use native.Mathlib.Omega.{arith}
 use lib.Dec.{eqb}
 use lib.ListN.{length, take, drop}
 use borrow.Author.Tests.{ne_eqb}
+use Rattle.std.specs.Prelude.{Some, None, Result, Ok, Err}
 use Rattle.quantity.specs.declared.sample_format.SampleFormat.{SampleFormat}
+use Rattle.refusal.specs.declared.Refusal.{Refusal}
+use Rattle.refusal.specs.declared.Refusal.TheVariants.{RowCut}
+use Rattle.refusal.specs.Number.{number}
 use Rattle.content_light.specs.declared.RunRecord.{RunRecord}
-use Rattle.content_light.specs.declared.PeakAnswer.{PeakAnswer}
-use Rattle.content_light.specs.declared.PeakAnswer.TheVariants as result
+use Rattle.content_light.specs.declared.Peak.{Peak}
 use Rattle.content_light.specs.Peak.{row_in, Test, accepted, refused, row_test, accepted_rows, after_rows, peak_of, measured}
 use Rattle.content_light.specs.Run.{fresh_record, with_row, held, peak_answer}
 use Rattle.content_light.proofs.RangeLaws.{InRange, fresh_in_range, read_same, taken, in_range_row}
 use Rattle.content_light.proofs.RunLaws.{answered, held_row, rows_of_row}
 use Rattle.listing.specs.Text.{line_within, refusal_line_within}
-use Rattle.title.specs.declared.opening.Opening.{Opening}
-use Rattle.title.specs.declared.opening.Opening.TheVariants as opening
-use Rattle.title.specs.declared.row_bytes.RowBytes.TheVariants as came
+use Rattle.title.specs.declared.opening.Layout.{Layout}
+use Rattle.title.specs.declared.row_bytes.RowBytes.TheVariants.{Whole}
 use Rattle.title.specs.Opening.{opening_answer, rows_of}
 use Rattle.title.specs.Rows.{row_bytes, title_rows}
 use Rattle.title.proofs.RowsLaws.{at_end, cut_short_lem, whole, no_row, one_row}
 use Rattle.title.proofs.ReadingLaws.{read_opening, Opened, opening_read}
-use Rattle.measured_title.specs.declared.next_row.NextRow.{NextRow}
-use Rattle.measured_title.specs.declared.next_row.NextRow.TheVariants.{Measured, Refused, End}
-use Rattle.measured_title.specs.NextRow.{next_row, peak_line, peak_line_within}
+use Rattle.measured_title.specs.NextRow.{NextRow, next_row, peak_line, peak_line_within}
 use Rattle.measured_title.specs.Title.{all_in, first_refusal, line_after, rows_line, title_line_after, title_line}
 use Rattle.measured_title.proofs.NextRowLaws.{next_by}
 
 -- what follows a row: the next one with the longer record, the line of a refusal, or the result's
 abbrev pub following : NextRow → (RunRecord → List ℕ) → List ℕ → List ℕ
-following (Measured longer) next result = next longer
-following (Refused number) next result = refusal_line_within number 29
-following End next result = result
+following (Ok (Some longer)) next result = next longer
+following (Ok None) next result = result
+following (Err refusal) next result = refusal_line_within (number refusal) 29
 
--- `print_line`, of so many turns, with the buffers of `print_peak` and `print_refusal`
+-- `run_of_rows`, of so many turns, and what is printed of it, with the buffers of `print_peak` and `print_refusal`
 unfoldable pub print_line : ℕ → RunRecord → SampleFormat → ℕ → ℕ → List ℕ → List ℕ
 print_line zero r format width left rest = peak_line_within (peak_answer r) 63
 print_line (suc turns) r format width left rest =
@@ -46,9 +46,9 @@ print_line (suc turns) r format width left rest =
     (following (next_row r format width (take (6 * width) rest)) (λ longer. print_line turns longer format width (left - 1) (drop (6 * width) rest)) result)
 
 -- `measure_title`
-abbrev pub print_title : Opening → ℕ → List ℕ → List ℕ
-print_title (opening.Rows source width) limit rest = print_line limit fresh_record source.format width limit rest
-print_title (opening.Refused number) limit rest = refusal_line_within number 29
+abbrev pub print_title : Result Layout Refusal → ℕ → List ℕ → List ℕ
+print_title (Ok layout) limit rest = print_line limit fresh_record layout.source.format layout.width limit rest
+print_title (Err refusal) limit rest = refusal_line_within (number refusal) 29
 
 unfoldable pub program_line : ℕ → List ℕ → List ℕ
 program_line limit title =
@@ -56,10 +56,10 @@ program_line limit title =
     print_title (opening_answer read.held) limit read.rest
 
 -- the buffers have room
-room_for_peak : (answer : PeakAnswer) → peak_line_within answer 63 ≡ peak_line answer
+room_for_peak : (answer : Result Peak Refusal) → peak_line_within answer 63 ≡ peak_line answer
 unfolding line_within refusal_line_within
-room_for_peak (result.Peak peak row place) = refl
-room_for_peak (result.Refused number) = refl
+room_for_peak (Ok peak) = refl
+room_for_peak (Err refusal) = refl
 
 -- the line of the rows that are left, after those that a record holds
 abbrev line_from : RunRecord → SampleFormat → ℕ → List (List ℕ) → List ℕ
@@ -76,17 +76,17 @@ module _ (r : RunRecord) (format : SampleFormat) (width : ℕ) (row : List ℕ) 
   abbrev printed : NextRow → Type 0
   printed n = following n next (peak_line_within (peak_answer r) 63) ≡ line_from r format width (row ∷ later)
 
-  row_cut : row_bytes width row ≡ came.Refused 11 → printed (next_row r format width row)
+  row_cut : row_bytes width row ≡ Err RowCut → printed (next_row r format width row)
   unfolding first_refusal refusal_line_within
   row_cut e = rw (next_by r format width row e, e)
 
-  row_tested : row_bytes width row ≡ came.Whole → (t : Test) → row_test r.rows (row_in format row) ≡ t → printed (next_row r format width row)
+  row_tested : row_bytes width row ≡ Ok Whole → (t : Test) → row_test r.rows (row_in format row) ≡ t → printed (next_row r format width row)
   unfolding first_refusal all_in accepted_rows after_rows refusal_line_within
   row_tested e accepted p =
       let s = with_row r (row_in format row) in
       let y = again s (in_range_row r (row_in format row) x (taken r.rows (row_in format row) p)) in
       rw (next_by r format width row e, answered r (row_in format row) x, e, p) (y ∙ rw (held_row r (row_in format row), rows_of_row r (row_in format row)))
-  row_tested e (refused number place) p = rw (next_by r format width row e, answered r (row_in format row) x, e, p)
+  row_tested e (refused refusal) p = rw (next_by r format width row e, answered r (row_in format row) x, e, p)
 
 -- Row by row the line of all rows is printed.
 pub line_printed : (turns : ℕ) (r : RunRecord) (format : SampleFormat) (width left : ℕ) (rest : List ℕ) → left ≤ turns → InRange r
@@ -132,8 +132,8 @@ program_line_lem limit title = rw read.answer (go (opening_answer title) refl)
     rest : List ℕ
     rest = (read_opening 7 [] title).rest
 
-    go : (answer : Opening) → opening_answer title ≡ answer → print_title answer limit rest ≡ title_line_after answer limit (rows_of title)
-    go (opening.Rows source width) e =
-        line_printed limit fresh_record source.format width limit rest (omega arith) fresh_in_range
-        ∙ ap (λ (bytes : List ℕ). rows_line source.format width (title_rows width limit bytes)) (sym (read.rows source width e))
-    go (opening.Refused number) e = refl
+    go : (answer : Result Layout Refusal) → opening_answer title ≡ answer → print_title answer limit rest ≡ title_line_after answer limit (rows_of title)
+    go (Ok layout) e =
+        line_printed limit fresh_record layout.source.format layout.width limit rest (omega arith) fresh_in_range
+        ∙ ap (λ (bytes : List ℕ). rows_line layout.source.format layout.width (title_rows layout.width limit bytes)) (sym (read.rows layout e))
+    go (Err refusal) e = refl

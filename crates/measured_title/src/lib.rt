@@ -6,94 +6,64 @@ pub mod next_row;
 
 ghost use Rattle.std.specs.Prelude.{◌≤◌};
 
-use content_light::{RunRecord, fresh_record};
-use next_row::{NextRow, list_peak, measure_next_row};
-use quantity::sample_format::SampleFormat;
+use content_light::RunRecord;
+use next_row::{list_peak, measure_next_row};
+use refusal::Refusal;
 use std::io::{Read, Write};
-use title::opening::Opening;
-use title::streams::{open_title, print_refusal, read_input, write_output};
+use title::opening::Layout;
+use title::streams::{Input, print_refusal};
 
-// Measures the title on the input, of which at most so many rows are read, and prints its line on the output; a read that fails is told where errors are. Of
-// what the title's card declares, the peak is not used.
+// Measures the title on the input, of which at most so many rows are read, and prints its line on the output; a read that fails is told where errors are, a
+// write that fails to nobody. Of what the title's card declares, the peak is not used.
 pub fn measure_title<R: Read, W: Write, E: Write>(
     input: &mut R,
     output: &mut W,
     errors: &mut E,
     limit: u64,
 ) {
-    let program = b"measure";
-    let opening = open_title(input, errors, program);
-    match opening {
-        Opening::Rows(source, width) => {
-            let format = source.format;
-            measure_rows(input, output, errors, program, limit, format, width)
-        }
-        Opening::Refused(number) => print_refusal(output, number),
-    }
-}
-
-// One row of the widest title is all that is held at a time.
-fn measure_rows<R: Read, W: Write, E: Write>(
-    input: &mut R,
-    output: &mut W,
-    errors: &mut E,
-    program: &[u8],
-    limit: u64,
-    format: SampleFormat,
-    width: usize,
-)
-    requires { width ≤ 8192 }
-{
-    let mut row = [0u8; 49152];
-    let bytes = 6 * width;
-    print_line(
-        input,
-        output,
+    let mut input = Input {
+        stream: input,
         errors,
-        program,
-        limit,
-        format,
-        width,
-        &mut row[..bytes],
-    );
+        program: b"measure",
+    };
+    match run_of_title(&mut input, limit) {
+        Ok(run) => print_peak(output, run),
+        Err(refusal) => print_refusal(output, refusal.number()),
+    }
 }
 
-// Reads row after row until one is refused or there is none, and prints the title's line.
-fn print_line<R: Read, W: Write, E: Write>(
-    input: &mut R,
-    output: &mut W,
-    errors: &mut E,
-    program: &[u8],
+// The run over a title, or its first refusal. One row of the widest title is all that is held at a time.
+fn run_of_title<R: Read, E: Write>(
+    input: &mut Input<'_, R, E>,
     limit: u64,
-    format: SampleFormat,
-    width: usize,
+) -> Result<RunRecord, Refusal> {
+    let layout = input.open_title()?;
+    let mut row = [0u8; 49152];
+    let bytes = 6 * layout.width;
+    run_of_rows(input, layout, limit, &mut row[..bytes])
+}
+
+// Reads row after row until one is refused or there is none.
+fn run_of_rows<R: Read, E: Write>(
+    input: &mut Input<'_, R, E>,
+    layout: Layout,
+    limit: u64,
     row: &mut [u8],
-) {
-    let mut run = fresh_record();
-    let mut left = limit;
-    while 0 < left {
-        let got = read_input(input, errors, program, row);
-        let next = measure_next_row(run, format, width, &row[..got]);
-        match next {
-            NextRow::Measured(longer) => {
-                run = longer;
-                left -= 1;
-            }
-            NextRow::Refused(number) => {
-                print_refusal(output, number);
-                return;
-            }
-            NextRow::End => {
-                left = 0;
-            }
+) -> Result<RunRecord, Refusal> {
+    let mut run = RunRecord::fresh();
+    for _ in 0..limit {
+        let got = input.read(row);
+        match measure_next_row(run, layout.source.format, layout.width, &row[..got])? {
+            Some(longer) => run = longer,
+            None => break,
         }
     }
-    print_peak(output, run);
+    Ok(run)
 }
 
 // The line of a run's result on the output.
 fn print_peak<W: Write>(output: &mut W, run: RunRecord) {
     let mut text = [0u8; 63];
     let n = list_peak(run, &mut text);
-    write_output(output, &text[..n]);
+    let _ = output.write_all(&text[..n]);
 }

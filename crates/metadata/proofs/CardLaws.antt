@@ -8,13 +8,14 @@ use lib.ListN.{length, get_or, drop, length-append, get_or-append}
 use lib.Seq.{drop-append-le}
 use lib.Dec.{eqb, ltb}
 use borrow.Author.Tests.{ne_eqb, eq-eqb, le-ltb, eqb-true, eqb-false, ltb-true, ltb-false, not-true}
+use Rattle.std.specs.Prelude.{Result, Ok, Err}
 use Rattle.quantity.specs.declared.Source.{Source}
 use Rattle.quantity.specs.SampleFormat.{format_of}
 use Rattle.big_endian.specs.BigEndian.{number_at}
 use Rattle.metadata.specs.Card.{bit, stands, max_cll, mastering_peak, card_bytes, unknown_bit, cut_short, known, out_of_range, field_out_of_range}
 use Rattle.metadata.specs.Card.{names_no_peak, peak, format, declared, card_answer, end_after, following, card_wants}
-use Rattle.metadata.specs.declared.SourceAnswer.{SourceAnswer}
-use Rattle.metadata.specs.declared.SourceAnswer.TheVariants.{Declared, Refused}
+use Rattle.refusal.specs.declared.Refusal.{Refusal}
+use Rattle.refusal.specs.declared.Refusal.TheVariants.{CardEmpty, UnknownBit, CardCut, FieldOutOfRange, NoPeak}
 
 one_of : (a b c : Bool) → (a ≡ false → b ≡ false → c ≡ false → ⊥) → (a || b || c) ≡ true
 one_of true b c h = refl
@@ -53,14 +54,14 @@ unfolding unknown_bit
 bits_refused = (refl, refl, refl, refl)
 
 -- What the fields of a card answer, once all its bytes are there.
-abbrev fields_answer : List ℕ → SourceAnswer
-fields_answer card = cond (field_out_of_range card) (Refused 4) (cond (names_no_peak card) (Refused 17) (Declared (declared card)))
+abbrev fields_answer : List ℕ → Result Source Refusal
+fields_answer card = cond (field_out_of_range card) (Err FieldOutOfRange) (cond (names_no_peak card) (Err NoPeak) (Ok (declared card)))
 
 -- What each outcome of the tests before those of the fields says of a card: its answer, how many bytes it wants, and why.
 pub data Outcome (card : List ℕ) : Type 0 where
-  empty : length card ≡ 0 → card_answer card ≡ Refused 1 → card_wants card ≡ 1 → Outcome card
-  unknown : 0 < length card → unknown_bit card ≡ true → card_answer card ≡ Refused 2 → card_wants card ≡ 0 → Outcome card
-  cut : 0 < length card → unknown_bit card ≡ false → length card < card_bytes card → card_answer card ≡ Refused 3
+  empty : length card ≡ 0 → card_answer card ≡ Err CardEmpty → card_wants card ≡ 1 → Outcome card
+  unknown : 0 < length card → unknown_bit card ≡ true → card_answer card ≡ Err UnknownBit → card_wants card ≡ 0 → Outcome card
+  cut : 0 < length card → unknown_bit card ≡ false → length card < card_bytes card → card_answer card ≡ Err CardCut
       → card_wants card ≡ card_bytes card - length card → Outcome card
   complete : unknown_bit card ≡ false → card_bytes card ≤ length card → card_answer card ≡ fields_answer card → card_wants card ≡ 0 → Outcome card
 
@@ -80,11 +81,11 @@ outcome card = go (eqb (length card) 0) (unknown_bit card) (cut_short card) refl
         complete q all (simp (p, q, r)) (simp (p, q) (omega arith))
 
 -- An accepted card has all its bytes, names a peak, and declares what its fields say.
-pub accepted : (card : List ℕ) {source : Source} → card_answer card ≡ Declared source
+pub accepted : (card : List ℕ) {source : Source} → card_answer card ≡ Ok source
     → (card_bytes card ≤ length card) × (field_out_of_range card ≡ false) × (source ≡ declared card) × (names_no_peak card ≡ false)
 accepted card {source} h = go (outcome card)
   where
-    by_fields : card_bytes card ≤ length card → (b c : Bool) → field_out_of_range card ≡ b → names_no_peak card ≡ c → fields_answer card ≡ Declared source
+    by_fields : card_bytes card ≤ length card → (b c : Bool) → field_out_of_range card ≡ b → names_no_peak card ≡ c → fields_answer card ≡ Ok source
         → (card_bytes card ≤ length card) × (field_out_of_range card ≡ false) × (source ≡ declared card) × (names_no_peak card ≡ false)
     by_fields l true c f n e = let g = simp f at e in let z : ◌≡◌ {A = ℕ} 0 1 = cc in absurd (omega arith)
     by_fields l false true f n e = let g = simp (f, n) at e in let z : ◌≡◌ {A = ℕ} 0 1 = cc in absurd (omega arith)
@@ -97,17 +98,17 @@ accepted card {source} h = go (outcome card)
     go (complete u l e w) = by_fields l (field_out_of_range card) (names_no_peak card) refl refl (sym e ∙ h)
 
 -- A card that 17 refuses has all its bytes and wants none.
-pub no_peak_named : (card : List ℕ) → card_answer card ≡ Refused 17 → (card_bytes card ≤ length card) × (card_wants card ≡ 0)
+pub no_peak_named : (card : List ℕ) → card_answer card ≡ Err NoPeak → (card_bytes card ≤ length card) × (card_wants card ≡ 0)
 no_peak_named card h = go (outcome card)
   where
     go : Outcome card → (card_bytes card ≤ length card) × (card_wants card ≡ 0)
-    go (empty l e w) = let z : ◌≡◌ {A = ℕ} 1 17 = cc in absurd (omega arith)
-    go (unknown l u e w) = let z : ◌≡◌ {A = ℕ} 2 17 = cc in absurd (omega arith)
-    go (cut l u s e w) = let z : ◌≡◌ {A = ℕ} 3 17 = cc in absurd (omega arith)
+    go (empty l e w) = let z : ◌≡◌ {A = ℕ} 0 1 = cc in absurd (omega arith)
+    go (unknown l u e w) = let z : ◌≡◌ {A = ℕ} 0 1 = cc in absurd (omega arith)
+    go (cut l u s e w) = let z : ◌≡◌ {A = ℕ} 0 1 = cc in absurd (omega arith)
     go (complete u l e w) = (l, w)
 
 -- An accepted card wants no byte.
-pub wants_none : (card : List ℕ) {source : Source} → card_answer card ≡ Declared source → card_wants card ≡ 0
+pub wants_none : (card : List ℕ) {source : Source} → card_answer card ≡ Ok source → card_wants card ≡ 0
 wants_none card {source} h = go (outcome card)
   where
     go : Outcome card → card_wants card ≡ 0
@@ -181,19 +182,19 @@ pub named_alike : (x y : List ℕ) → peak x ≡ peak y → names_no_peak x ≡
 named_alike x y h = no_peak x ∙ ap (λ (p : ℕ). eqb p 0) h ∙ sym (no_peak y)
 
 -- The peak of an accepted card lies from 1 to 10,000, so that refusal 5 never meets it.
-pub peak_in_range : (card : List ℕ) {source : Source} → card_answer card ≡ Declared source → (1 ≤ source.peak) × (source.peak ≤ 10000)
+pub peak_in_range : (card : List ℕ) {source : Source} → card_answer card ≡ Ok source → (1 ≤ source.peak) × (source.peak ≤ 10000)
 peak_in_range card h =
     let a = accepted card h in
     let some = eqb-false (peak card) 0 (sym (no_peak card) ∙ a.3) in
     rw a.2 (omega arith, peak_at_most card a.1)
 
 -- What follows a card begins after its bytes where its answer says so, as that of an accepted card does, and refusal 17.
-pub after_bytes_lem : (card : List ℕ) {answer : SourceAnswer} → card_answer card ≡ answer → end_after answer card ≡ card_bytes card
+pub after_bytes_lem : (card : List ℕ) {answer : Result Source Refusal} → card_answer card ≡ answer → end_after answer card ≡ card_bytes card
     → following card ≡ drop (card_bytes card) card
 unfolding following
 after_bytes_lem card h e = rw (h, e)
 
-pub after_card : (card : List ℕ) {source : Source} → card_answer card ≡ Declared source → following card ≡ drop (card_bytes card) card
+pub after_card : (card : List ℕ) {source : Source} → card_answer card ≡ Ok source → following card ≡ drop (card_bytes card) card
 after_card card h = after_bytes_lem card h refl
 
 -- A card takes its bit map and at most two fields.
@@ -312,17 +313,17 @@ module _ (card more : List ℕ) where
           rw e (simp (some first, same_unknown first ∙ u, uncut l, same_fields l, named, same_peak l, same_format first))
 
   -- What comes after such a card's bytes follows the card.
-  follows_by : {answer : SourceAnswer} → card_answer card ≡ answer → ((x : List ℕ) → end_after answer x ≡ card_bytes x) → card_wants card ≡ 0
+  follows_by : {answer : Result Source Refusal} → card_answer card ≡ answer → ((x : List ℕ) → end_after answer x ≡ card_bytes x) → card_wants card ≡ 0
       → card_bytes card ≤ length card → following (card ++ more) ≡ following card ++ more
   follows_by h e wanted whole =
       let joined = after_bytes_lem (card ++ more) (settled wanted ∙ h) (e (card ++ more)) in
       let bytes = ap (λ (n : ℕ). drop n (card ++ more)) (same_bytes (some_byte whole)) in
       joined ∙ bytes ∙ drop-append-le (card_bytes card) card more whole ∙ rw (after_bytes_lem card h (e card))
 
-  pub follows : {source : Source} → card_answer card ≡ Declared source → following (card ++ more) ≡ following card ++ more
+  pub follows : {source : Source} → card_answer card ≡ Ok source → following (card ++ more) ≡ following card ++ more
   follows h = follows_by h (λ x. refl) (wants_none card h) (accepted card h).0
 
-  pub follows_unnamed : card_answer card ≡ Refused 17 → following (card ++ more) ≡ following card ++ more
+  pub follows_unnamed : card_answer card ≡ Err NoPeak → following (card ++ more) ≡ following card ++ more
   follows_unnamed h = let n = no_peak_named card h in follows_by h (λ x. refl) n.1 n.0
 
   -- Fewer bytes than a card wants leave it wanting the others.

@@ -8,19 +8,19 @@ use native.Mathlib.Omega.{arith}
 use lib.ListN.{drop}
 use lib.Dec.{ltb}
 use borrow.Author.Tests.{ltb-true, ltb-false, ne_eqb}
+use Rattle.std.specs.Prelude.{Result, Ok, Err}
 use Rattle.quantity.specs.declared.Source.{Source}
 use Rattle.quantity.specs.Source.{graded_at}
 use Rattle.big_endian.specs.BigEndian.{number_at}
 use Rattle.metadata.specs.Card.{stands, max_cll, mastering_peak, card_bytes, unknown_bit, out_of_range, field_out_of_range, known, peak, format, declared}
 use Rattle.metadata.specs.Card.{names_no_peak, card_answer, end_after, following}
-use Rattle.metadata.specs.declared.SourceAnswer.{SourceAnswer}
-use Rattle.metadata.specs.declared.SourceAnswer.TheVariants.{Declared, Refused}
+use Rattle.refusal.specs.declared.Refusal.{Refusal}
 use Rattle.metadata.proofs.CardLaws.{accepted, or_false, known_in_range}
 use Rattle.metadata.proofs.PeakOrderLaws.{former_peak, declared_at, with_peak, former_answer, Changed}
 
 -- Such a card gives 10,000 where it gave its mastering peak.
 pub changed : (card : List ℕ) → Changed card
-    → (card_answer card ≡ Declared (declared_at 10000 card)) × (former_answer card ≡ Declared (declared_at (mastering_peak card) card))
+    → (card_answer card ≡ Ok (declared_at 10000 card)) × (former_answer card ≡ Ok (declared_at (mastering_peak card) card))
 unfolding peak former_peak known
 changed card (accepted, mastered, unconstrained, low, high, none) =
     let named = ne_eqb (mastering_peak card) 0 (omega arith) in
@@ -32,7 +32,7 @@ known_stands true v h = refl
 known_stands false v h = h
 
 -- Of an accepted card the orders part only where bit 2 and a mastering peak from 1 to 9,999 stand beside no known MaxCLL.
-orders_part : (card : List ℕ) → field_out_of_range card ≡ false → card_answer card ≡ Declared (declared card) → Changed card ⊎ (peak card ≡ former_peak card)
+orders_part : (card : List ℕ) → field_out_of_range card ≡ false → card_answer card ≡ Ok (declared card) → Changed card ⊎ (peak card ≡ former_peak card)
 unfolding peak former_peak field_out_of_range
 orders_part card fields accepted =
     go (known (stands 0 card) (max_cll card)) (stands 2 card) (known (stands 1 card) (mastering_peak card)) (ltb (mastering_peak card) 10000)
@@ -56,16 +56,16 @@ orders_part card fields accepted =
 changed_or_same : (card : List ℕ) → Changed card ⊎ (card_answer card ≡ former_answer card)
 changed_or_same card = go (card_answer card) refl
   where
-    same : card_answer card ≡ Declared (declared card) → Changed card ⊎ (peak card ≡ former_peak card) → Changed card ⊎ (card_answer card ≡ former_answer card)
+    same : card_answer card ≡ Ok (declared card) → Changed card ⊎ (peak card ≡ former_peak card) → Changed card ⊎ (card_answer card ≡ former_answer card)
     same e (inl h) = inl h
     same e (inr h) = inr (rw e (rw h))
 
-    go : (answer : SourceAnswer) → card_answer card ≡ answer → Changed card ⊎ (card_answer card ≡ former_answer card)
-    go (Declared source) e =
+    go : (answer : Result Source Refusal) → card_answer card ≡ answer → Changed card ⊎ (card_answer card ≡ former_answer card)
+    go (Ok source) e =
         let a = accepted card e in
-        let declares = e ∙ ap Declared a.2 in
+        let declares = e ∙ ap Ok a.2 in
         same declares (orders_part card a.1 declares)
-    go (Refused number) e = inr (rw e)
+    go (Err refusal) e = inr (rw e)
 
 differs : (card : List ℕ) → Changed card → card_answer card ≡ former_answer card → ⊥
 differs card h same =
@@ -89,13 +89,13 @@ pub same_following : (card : List ℕ) → following card ≡ drop (end_after (f
 unfolding following
 same_following card = go (card_answer card)
   where
-    go : (answer : SourceAnswer) → drop (end_after answer card) card ≡ drop (end_after (with_peak (former_peak card) card answer) card) card
-    go (Declared source) = refl
-    go (Refused number) = refl
+    go : (answer : Result Source Refusal) → drop (end_after answer card) card ≡ drop (end_after (with_peak (former_peak card) card answer) card) card
+    go (Ok source) = refl
+    go (Err refusal) = refl
 
 -- the peak of a card that declares ten bits and narrow range, and the one of before
 abbrev Peaks : List ℕ → ℕ → ℕ → Type 0
-Peaks card now before = (card_answer card ≡ Declared (graded_at now)) × (former_answer card ≡ Declared (graded_at before))
+Peaks card now before = (card_answer card ≡ Ok (graded_at now)) × (former_answer card ≡ Ok (graded_at before))
 
 -- 06 0F A0, 06 27 10, 07 00 00 0F A0 and 07 03 E8 0F A0, computed
 pub examples :

@@ -8,11 +8,13 @@ use native.Mathlib.Omega.{arith}
 use lib.ListN.{length, drop, drop_of_length-le}
 use lib.Dec.{ltb, eqb}
 use borrow.Author.Tests.{ne_eqb, lt-ltb, le-ltb, ltb-true, ltb-false}
+use Rattle.std.specs.Prelude.{Result, Ok, Err}
 use Rattle.big_endian.specs.BigEndian.{number_at}
 use Rattle.metadata.specs.Card.{bit, stands, field, max_cll, mastering_peak, card_bytes, unknown_bit, known, out_of_range, field_out_of_range, format}
 use Rattle.metadata.specs.Card.{card_answer, end_after, following}
-use Rattle.metadata.specs.declared.SourceAnswer.{SourceAnswer}
-use Rattle.metadata.specs.declared.SourceAnswer.TheVariants.{Declared, Refused}
+use Rattle.quantity.specs.declared.Source.{Source}
+use Rattle.refusal.specs.declared.Refusal.{Refusal}
+use Rattle.refusal.specs.declared.Refusal.TheVariants.{NoPeak}
 use Rattle.metadata.proofs.CardLaws.{choice, same_choices, named_alike}
 
 -- The card's two calls answer alike.
@@ -113,9 +115,10 @@ same_answers c p q xs ys g h longer bytes outside first second rest = (same, rw 
     refused true = rw (bytes_by_lem c p g xs, bytes_by_lem c q h ys) rest
     refused false = drop_of_length-le xs {i = length xs} (omega arith) ∙ sym (drop_of_length-le ys {i = length ys} (omega arith))
 
-    go : (answer : SourceAnswer) → drop (end_after answer x) x ≡ drop (end_after answer y) y
-    go (Declared source) = refused true
-    go (Refused number) = refused (eqb number 17)
+    go : (answer : Result Source Refusal) → drop (end_after answer x) x ≡ drop (end_after answer y) y
+    go (Ok source) = refused true
+    go (Err NoPeak) = refused true
+    go (Err _) = refused false
 
 -- MaxCLL of 0 alone and before a mastering peak, a mastering peak of 0 alone and after MaxCLL; c has the bits above these two.
 pub zero_field : (c high low : ℕ) (rest : List ℕ)

@@ -1,13 +1,13 @@
 -- The card that precedes a picture: scope (document 01), "Cards, rows, program", and refusals 1 to 4 of "What stops a call"; request 02, fields of 0;
 -- request 06, depth and range; request 07, unconstrained before the mastering peak; request 12, refusal 17.
 -- A list of bytes opens with the card, and other bytes may follow. Fields and peaks are in whole cd/m2, lengths in bytes.
-use Rattle.std.specs.Prelude.{ℕ, ◌+◌, ◌*◌, ◌-◌, ◌/◌, ◌%◌, ◌^◌, Bool, cond, not, ◌||◌, ◌&&◌, List, length, get_or, drop, ltb, eqb}
+use Rattle.std.specs.Prelude.{ℕ, ◌+◌, ◌*◌, ◌-◌, ◌/◌, ◌%◌, ◌^◌, Bool, cond, not, ◌||◌, ◌&&◌, List, length, get_or, drop, ltb, eqb, Result, Ok, Err}
 use Rattle.quantity.specs.declared.sample_format.SampleFormat.{SampleFormat}
 use Rattle.quantity.specs.declared.Source.{Source}
 use Rattle.quantity.specs.SampleFormat.{format_of}
+use Rattle.refusal.specs.declared.Refusal.{Refusal}
+use Rattle.refusal.specs.declared.Refusal.TheVariants.{CardEmpty, UnknownBit, CardCut, FieldOutOfRange, NoPeak}
 use Rattle.big_endian.specs.BigEndian.{number_at}
-use Rattle.metadata.specs.declared.SourceAnswer.{SourceAnswer}
-use Rattle.metadata.specs.declared.SourceAnswer.TheVariants.{Declared, Refused}
 
 -- scope, Cards: bit i of the bit map, which is the first byte, as 0 or 1; bit 0 is the lowest
 abbrev pub bit : ℕ → List ℕ → ℕ
@@ -77,20 +77,21 @@ abbrev pub declared : List ℕ → Source
 declared card = record { peak = peak card; format = format card }
 
 -- scope, What stops a call, and request 12: the first of refusals 1 to 4 and 17 that the card meets, else what it declares
-unfoldable pub card_answer : List ℕ → SourceAnswer
+unfoldable pub card_answer : List ℕ → Result Source Refusal
 card_answer card =
-    cond (eqb (length card) 0) (Refused 1)
-    (cond (unknown_bit card) (Refused 2)
-    (cond (cut_short card) (Refused 3)
-    (cond (field_out_of_range card) (Refused 4)
-    (cond (names_no_peak card) (Refused 17)
-    (Declared (declared card))))))
+    cond (eqb (length card) 0) (Err CardEmpty)
+    (cond (unknown_bit card) (Err UnknownBit)
+    (cond (cut_short card) (Err CardCut)
+    (cond (field_out_of_range card) (Err FieldOutOfRange)
+    (cond (names_no_peak card) (Err NoPeak)
+    (Ok (declared card))))))
 
 -- scope, Cards, and request 12: what follows a card begins after the card's bytes, also where it names no peak; of a card that 1 to 4 refuse it is the
 -- empty end
-abbrev pub end_after : SourceAnswer → List ℕ → ℕ
-end_after (Declared source) card = card_bytes card
-end_after (Refused number) card = cond (eqb number 17) (card_bytes card) (length card)
+abbrev pub end_after : Result Source Refusal → List ℕ → ℕ
+end_after (Ok source) card = card_bytes card
+end_after (Err NoPeak) card = card_bytes card
+end_after (Err _) card = length card
 
 -- scope, Cards: the part of the bytes that follows the card
 unfoldable pub following : List ℕ → List ℕ

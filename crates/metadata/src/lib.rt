@@ -4,49 +4,43 @@
 
 pub mod rewriting;
 
-ghost use Rattle.std.specs.Prelude.{◌≡◌, cond, ◌&&◌, ◌/◌, ◌%◌, ◌<◌, ◌≤◌, eqb, length, get_or};
-ghost use Rattle.metadata.specs.Card.{card_answer, end_after, following, card_wants, card_bytes, unknown_bit};
-ghost use Rattle.metadata.specs.Card.{field_out_of_range, out_of_range, mastering_peak, known, peak, format};
+ghost use Rattle.std.specs.Prelude.{◌≡◌, ◌<◌, ◌≤◌, not, length};
+ghost use Rattle.std.specs.Bool.{then_some};
+ghost use Rattle.metadata.specs.Card.{stands, max_cll, mastering_peak, card_bytes, unknown_bit, field_out_of_range};
+ghost use Rattle.metadata.specs.Card.{names_no_peak, peak, format, card_answer, end_after, following, card_wants};
 
 use big_endian::{byte_at, number_at};
 use quantity::Source;
-use quantity::sample_format::{SampleFormat, format_of};
-
-#[derive(Clone, Copy)]
-pub enum SourceAnswer {
-    // what the card declares of its picture: a peak from 1 to 10,000 cd/m2, depth and range
-    Declared(Source),
-    // the number of the refusal, from 1 to 4 or 17
-    Refused(u64),
-}
+use quantity::sample_format::SampleFormat;
+use refusal::Refusal;
 
 // What the card declares of its picture, or its refusal, 1 to 4 and then 17. Every field that stands is tested, also one that does not decide the peak.
-pub fn source_of_metadata(card: &[u8]) -> SourceAnswer
+#[tactic(auto, unfolding(crate::specs::Card::card_answer))]
+pub fn source_of_metadata(card: &[u8]) -> Result<Source, Refusal>
     ensures { result ≡ card_answer card.now }
 {
-    if card.len() == 0 {
-        return SourceAnswer::Refused(1);
+    let fields = Card(card);
+    if card.is_empty() {
+        return Err(Refusal::CardEmpty);
     }
-    if has_unknown_bit(card) {
-        return SourceAnswer::Refused(2);
+    if fields.has_unknown_bit() {
+        return Err(Refusal::UnknownBit);
     }
-    if card.len() < length_of_card(card) {
-        return SourceAnswer::Refused(3);
+    if card.len() < fields.length() {
+        return Err(Refusal::CardCut);
     }
-    if has_field_out_of_range(card) {
-        return SourceAnswer::Refused(4);
+    if fields.has_field_out_of_range() {
+        return Err(Refusal::FieldOutOfRange);
     }
-    let peak = peak_of_fields(card);
-    if peak == 0 {
-        return SourceAnswer::Refused(17);
-    }
-    SourceAnswer::Declared(Source {
-        peak: peak,
-        format: format_of_bits(card),
+    let peak = fields.peak().ok_or(Refusal::NoPeak)?;
+    Ok(Source {
+        peak,
+        format: fields.format(),
     })
 }
 
 // The bytes after the card, also where it is refused for want of a peak; none where 1 to 4 refuse it.
+#[tactic(auto, unfolding(crate::specs::Card::following))]
 pub fn after_metadata(card: &[u8]) -> &[u8]
     ensures { result.now ≡ following card.now }
 {
@@ -55,117 +49,102 @@ pub fn after_metadata(card: &[u8]) -> &[u8]
 }
 
 // How many bytes the card still wants before it can be answered: its bit map, then its fields.
+#[tactic(auto, unfolding(crate::specs::Card::card_wants))]
 pub fn bytes_wanted(card: &[u8]) -> usize
     ensures { result ≡ card_wants card.now }
 {
-    if card.len() == 0 {
+    let fields = Card(card);
+    if card.is_empty() {
         return 1;
     }
-    if has_unknown_bit(card) {
+    if fields.has_unknown_bit() {
         return 0;
     }
-    let whole = length_of_card(card);
-    if card.len() < whole {
-        return whole - card.len();
-    }
-    0
+    fields.length().saturating_sub(card.len())
 }
 
-// Where the bytes begin that follow the card: at its end, or at the end of all bytes where 1 to 4 refuse it.
+// Where the bytes begin that follow the card: at its end, or at the end of all bytes where 1 to 4 refuse it. `Ok(_) | Err(NoPeak)` in one arm was tried, and
+// the proof did not close: no fact tells there which of the two it is.
+#[tactic(auto, using(crate::proofs::CardLaws::accepted, crate::proofs::CardLaws::no_peak_named))]
 fn end_of_metadata(card: &[u8]) -> usize
     ensures { (result ≡ end_after (card_answer card.now) card.now) × (result ≤ length card.now) }
 {
-    let answer = source_of_metadata(card);
-    match answer {
-        SourceAnswer::Declared(_) => length_of_card(card),
-        SourceAnswer::Refused(number) => {
-            if number == 17 {
-                return length_of_card(card);
-            }
-            card.len()
-        }
+    match source_of_metadata(card) {
+        Ok(_) => Card(card).length(),
+        Err(Refusal::NoPeak) => Card(card).length(),
+        Err(_) => card.len(),
     }
 }
 
-// Length in bytes of the bit map and of the fields that stand.
-fn length_of_card(card: &[u8]) -> usize
-    ensures { result ≡ card_bytes card.now }
-{
-    1 + 2 * (bit_of(card, 1) + bit_of(card, 2)) as usize
-}
+// The bytes of a card, whatever comes after it; a byte past their end counts as 0.
+#[derive(Clone, Copy)]
+struct Card<'a>(&'a [u8]);
 
-// The bit of this weight in the card's bit map, 0 or 1.
-fn bit_of(card: &[u8], weight: u64) -> u64
-    requires { 0 < weight }
-    ensures { (result ≡ get_or card.now 0 0 / weight % 2) × (result < 2) }
-{
-    byte_at(card, 0) / weight % 2
-}
-
-// Depth and range, by bits 3 and 4.
-fn format_of_bits(card: &[u8]) -> SampleFormat
-    ensures { result ≡ format card.now }
-{
-    format_of(byte_at(card, 0))
-}
-
-fn has_unknown_bit(card: &[u8]) -> bool
-    ensures { result ≡ unknown_bit card.now }
-{
-    31 < byte_at(card, 0)
-}
-
-fn has_field_out_of_range(card: &[u8]) -> bool
-    ensures { result ≡ field_out_of_range card.now }
-{
-    if field_refused(bit_of(card, 1), number_at(card, 1)) {
-        return true;
+impl Card<'_> {
+    // Whether a bit of the bit map is set; bit 0 is the lowest.
+    fn stands(self, bit: u32) -> bool
+        requires { bit < 8 }
+        ensures { result ≡ stands bit self.entry.0.now }
+    {
+        byte_at(self.0, 0) >> bit & 1 == 1
     }
-    field_refused(bit_of(card, 2), mastering_peak(card))
-}
 
-// Whether a field stands, as its bit says, and is out of range.
-fn field_refused(bit: u64, value: u64) -> bool
-    ensures { result ≡ (eqb bit 1 && out_of_range value) }
-{
-    if bit != 1 {
-        return false;
+    // Length in bytes of the bit map and of the fields that stand.
+    #[tactic(auto, unfolding(crate::specs::Card::card_bytes))]
+    fn length(self) -> usize
+        ensures { result ≡ card_bytes self.entry.0.now }
+    {
+        1 + 2 * (self.stands(0) as usize + self.stands(1) as usize)
     }
-    10000 < value
-}
 
-// The field of bit 1: MaxCLL precedes it where bit 0 stands.
-fn mastering_peak(card: &[u8]) -> u64
-    ensures { result ≡ mastering_peak card.now }
-{
-    number_at(card, 1 + 2 * bit_of(card, 1) as usize)
-}
-
-// The peak that the card names, 0 where it names none.
-fn peak_of_fields(card: &[u8]) -> u64
-    ensures { result ≡ peak card.now }
-{
-    let mastered = first_known(bit_of(card, 2), mastering_peak(card), 0);
-    let unconstrained = first_standing(bit_of(card, 4), 10000, mastered);
-    first_known(bit_of(card, 1), number_at(card, 1), unconstrained)
-}
-
-// The value of a field where it is known, else the next choice: 0 stands for a value that nobody measured.
-fn first_known(bit: u64, value: u64, next: u64) -> u64
-    ensures { result ≡ cond (known (eqb bit 1) value) value next }
-{
-    if value == 0 {
-        return next;
+    #[tactic(auto, using(crate::proofs::CardLaws::unknown_bit_lem))]
+    fn has_unknown_bit(self) -> bool
+        ensures { result ≡ unknown_bit self.entry.0.now }
+    {
+        31 < byte_at(self.0, 0)
     }
-    first_standing(bit, value, next)
-}
 
-// The value where its bit stands, else the next choice.
-fn first_standing(bit: u64, value: u64, next: u64) -> u64
-    ensures { result ≡ cond (eqb bit 1) value next }
-{
-    if bit == 1 {
-        return value;
+    #[tactic(auto, unfolding(crate::specs::Card::field_out_of_range, crate::specs::Card::out_of_range))]
+    fn has_field_out_of_range(self) -> bool
+        ensures { result ≡ field_out_of_range self.entry.0.now }
+    {
+        let out_of_range = |value: u64| 10000 < value;
+        self.max_cll().is_some_and(out_of_range) || self.mastering_peak().is_some_and(out_of_range)
     }
-    next
+
+    // The field of bit 0, in cd/m2, where it stands.
+    fn max_cll(self) -> Option<u64>
+        ensures { result ≡ then_some (stands 0 self.entry.0.now) (max_cll self.entry.0.now) }
+    {
+        self.stands(0).then_some(number_at(self.0, 1))
+    }
+
+    // The field of bit 1, in cd/m2, where it stands: MaxCLL precedes it where bit 0 stands.
+    fn mastering_peak(self) -> Option<u64>
+        ensures { result ≡ then_some (stands 1 self.entry.0.now) (mastering_peak self.entry.0.now) }
+    {
+        self.stands(1)
+            .then_some(number_at(self.0, 1 + 2 * self.stands(0) as usize))
+    }
+
+    // The peak that the card names. A field of 0 is a value that nobody measured.
+    #[tactic(auto, unfolding(crate::specs::Card::peak, crate::specs::Card::names_no_peak, crate::specs::Card::known))]
+    fn peak(self) -> Option<u64>
+        ensures { result ≡ then_some (not (names_no_peak self.entry.0.now)) (peak self.entry.0.now) }
+    {
+        let known = |value: &u64| *value != 0;
+        let unconstrained = self.stands(2).then_some(10000);
+        self.max_cll()
+            .filter(known)
+            .or(unconstrained)
+            .or(self.mastering_peak().filter(known))
+    }
+
+    // Depth and range, by bits 3 and 4.
+    #[tactic(auto, unfolding(crate::specs::Card::format))]
+    fn format(self) -> SampleFormat
+        ensures { result ≡ format self.entry.0.now }
+    {
+        SampleFormat::by_bits(byte_at(self.0, 0))
+    }
 }

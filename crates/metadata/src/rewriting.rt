@@ -2,37 +2,34 @@
 ghost use Rattle.std.specs.Prelude.{◌≡◌};
 ghost use Rattle.metadata.specs.Rewriting.{rewriting, rewritten_bits};
 
-use crate::{SourceAnswer, bit_of, source_of_metadata};
+use crate::{Card, source_of_metadata};
+use refusal::Refusal;
 
-#[derive(Clone, Copy)]
-pub enum Rewriting {
-    // the three bytes that stand in the place of the card's
-    Opening(u8, u8, u8),
-    // nothing is to be rewritten: the card names a peak
-    Nothing,
-    // the number of the refusal, from 1 to 4
-    Refused(u64),
-}
+// The mastering peak of a rewritten card, in cd/m2.
+const REWRITTEN_PEAK: u16 = 4000;
 
-// What the card is rewritten to: one of the mastering peak that it was taken to have, 4,000 cd/m2, whose high and low byte are 15 and 160.
-pub fn rewrite_metadata(card: &[u8]) -> Rewriting
+// What the card is rewritten to: the three bytes of one that names the mastering peak that it was taken to have; nothing where it names a peak, and of its
+// refusals 1 to 4.
+#[tactic(auto, unfolding(crate::specs::Rewriting::rewriting))]
+pub fn rewrite_metadata(card: &[u8]) -> Result<Option<[u8; 3]>, Refusal>
     ensures { result ≡ rewriting card.now }
 {
-    let answer = source_of_metadata(card);
-    match answer {
-        SourceAnswer::Declared(_) => Rewriting::Nothing,
-        SourceAnswer::Refused(number) => {
-            if number == 17 {
-                return Rewriting::Opening(rewritten_bits(card), 15, 160);
-            }
-            Rewriting::Refused(number)
+    match source_of_metadata(card) {
+        Ok(_) => Ok(None),
+        Err(Refusal::NoPeak) => {
+            let [high, low] = REWRITTEN_PEAK.to_be_bytes();
+            Ok(Some([Card(card).rewritten_bits(), high, low]))
         }
+        Err(refusal) => Err(refusal),
     }
 }
 
-// Depth and range stay as they are declared; no field but the mastering peak's stands.
-fn rewritten_bits(card: &[u8]) -> u8
-    ensures { result ≡ rewritten_bits card.now }
-{
-    (2 + 8 * bit_of(card, 8) + 16 * bit_of(card, 16)) as u8
+impl Card<'_> {
+    // Depth and range stay as they are declared; no field but the mastering peak's stands.
+    #[tactic(auto, unfolding(crate::specs::Rewriting::rewritten_bits))]
+    fn rewritten_bits(self) -> u8
+        ensures { result ≡ rewritten_bits self.entry.0.now }
+    {
+        2 + 8 * self.stands(3) as u8 + 16 * self.stands(4) as u8
+    }
 }

@@ -8,7 +8,8 @@ use native.Mathlib.Decide.{dec_le}
 use native.Mathlib.Omega.{arith}
 use lib.Dec.{lit<}
 use borrow.Author.Tests.{leb-true, le-leb}
-use Rattle.laws.proofs.LargestLaws.{Falling, Found, found, passes_le, at_most_falls}
+use Rattle.laws.specs.Largest.{Falling}
+use Rattle.laws.proofs.LargestLaws.{Found, found, passes_le, at_most_falls}
 use Rattle.quantity.specs.Units.{units, thousand, ten_thousand}
 use Rattle.quantity.specs.Component.{pixel, weighted}
 use Rattle.inverse_oetf.proofs.SceneLaws.{last_light}

@@ -12,7 +12,7 @@ use Rattle.quantity.specs.declared.sample_format.Depth.TheVariants.{Ten, Twelve}
 use Rattle.quantity.specs.declared.sample_format.Range.{Range}
 use Rattle.quantity.specs.declared.sample_format.Range.TheVariants.{Narrow, Full}
 use Rattle.quantity.specs.declared.sample_format.SampleFormat.{SampleFormat}
-use Rattle.quantity.specs.SampleFormat.{fine, last_code, excursion, coded}
+use Rattle.quantity.specs.SampleFormat.{last_code, excursion, coded}
 use Rattle.pq.specs.Pq.{entry_in, position_signal}
 use Rattle.pq.specs.LightTable.{light_table, light_entry}
 use Rattle.position.specs.Position.{light_at_in, light_at}
@@ -67,13 +67,6 @@ pub code_light_grows : (f : SampleFormat) (D E : ℕ) → D ≤ E → code_light
 unfolding code_light
 code_light_grows f D E h = light_grows (code_position f D) (code_position f E) (code_position_grows f D E h)
 
--- the position of a code a above black, by its range
-pub by_narrow : (f : SampleFormat) (D : ℕ) {a : ℕ} → f.range ≡ Narrow → a ≡ above_black f D → 897024 * a / (219 * fine f.depth) ≡ code_position f D
-by_narrow f D e g = rw (g, e)
-
-pub by_full : (f : SampleFormat) (D : ℕ) {a : ℕ} → f.range ≡ Full → a ≡ above_black f D → 897024 * a / last_code f.depth ≡ code_position f D
-by_full f D e g = rw (g, e)
-
 -- ---- in narrow range a position is that of an index of the light table, so many of which each code has
 abbrev pub indices : Depth → ℕ
 indices Ten = 4
@@ -91,9 +84,6 @@ module _ (P : ℕ → ℕ) (f : SampleFormat) (D : ℕ) (e : f.range ≡ Narrow)
   pub narrow_light : P (indices f.depth * above_black f D) ≡ code_light_in P f D
   narrow_light = sym (ap (light_at_in P) index ∙ entry_in_lem P (indices f.depth * above_black f D))
 
-  pub narrow_entry : P (code_position f D / 256) ≡ code_light_in P f D
-  narrow_entry = ap P (omega (arith, index)) ∙ narrow_light
-
 -- the formulas of scope and request
 pub ten_narrow : (D : ℕ) → code_position (coded Ten Narrow) D ≡ 1024 * (min (max D 64) 940 - 64)
 ten_narrow D = omega arith
@@ -104,7 +94,7 @@ twelve_narrow D = omega arith
 pub full : (d : Depth) (D : ℕ) → D ≤ last_code d → code_position (coded d Full) D ≡ 897024 * D / last_code d
 full d D h = let e : above_black (coded d Full) D ≡ D = omega arith in rw e refl
 
--- what is read off a lent table, where that is the light table
+-- what is read off a table that is the light table
 pub lent_code_light : (t : List ℕ) (f : SampleFormat) (D : ℕ) → t ≡ light_table → code_light_in (entry_in t) f D ≡ code_light f D
 unfolding code_light light_at light_entry
 lent_code_light t f D e = ap (λ (s : List ℕ). code_light_in (entry_in s) f D) e

@@ -37,12 +37,7 @@ module _ (P : ℕ → ℕ) where
       let f : 256 * k % 256 ≡ 0 = omega arith in
       rw (e, f) (omega arith)
 
-  -- the light at q from the entries around it: where the table falls or is flat, the lower one
-  pub level : (q low high : ℕ) → low ≡ P (q / 256) → high ≡ P (q / 256 + 1) → high ≤ low → low ≡ light_at_in P q
-  level q low high e f h =
-      let z : P (q / 256 + 1) - P (q / 256) ≡ 0 = omega arith in
-      rw z (omega arith)
-
+  -- the light at q from the entries around it
   pub sloped : (q low high part : ℕ) → low ≡ P (q / 256) → high ≡ P (q / 256 + 1) → part ≡ (high - low) * (q % 256) / 256 → low + part ≡ light_at_in P q
   sloped q low high part e f g = cc
 
@@ -93,7 +88,7 @@ light_at_most q = go (dec_le q last_position)
     go (yes h) = omega (arith, light_grows q last_position h, last_light)
     go (no h) = omega (arith, past_range q (omega arith), entry_last)
 
--- what is read off a lent table, where that is the light table
+-- what is read off a table that is the light table
 pub lent_light : (t : List ℕ) (q : ℕ) → t ≡ light_table → light_at_in (entry_in t) q ≡ light_at q
 unfolding light_at light_entry
 lent_light t q e = ap (λ (s : List ℕ). light_at_in (entry_in s) q) e

@@ -1,5 +1,5 @@
 -- Positions and their lights (scope, Light: position). Light in units of 1/16,777,216 cd/m2, positions in 1/897,024 of the PQ signal.
--- A light is read off a table given by its entries, P, so that a call on a lent table can be said too; the engine's is `light_entry`.
+-- A light is read off a table given by its entries, P, so that a call on any table can be said too; the engine's is `light_entry`.
 use Rattle.std.specs.Prelude.{ℕ, ◌+◌, ◌-◌, ◌*◌, ◌/◌, ◌%◌, ◌≤◌, leb}
 use Rattle.laws.specs.Largest.{largest}
 use Rattle.quantity.specs.Units.{last_position}

@@ -1,7 +1,7 @@
 // The light table P (scope, Light: light table). Made by `python3 tools/light_table.py source`.
 // Entry k is the light of the PQ signal k/3504 to the nearest 1/16,777,216 cd/m2 (request 05); 3,505 entries, rising from 0 to
-// 167,772,160,000. A mention of the constant stores them all: only `light_table` mentions it.
-pub const LIGHT_TABLE: [u64; 3505] = [
+// 167,772,160,000.
+pub static LIGHT_TABLE: [u64; 3505] = [
     0,
     81,
     271,

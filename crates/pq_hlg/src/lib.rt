@@ -5,71 +5,57 @@
 pub mod linear;
 
 ghost use Rattle.std.specs.Prelude.{◌≡◌, length};
-ghost use Rattle.quantity.specs.Component.{pixel};
+ghost use Rattle.quantity.specs.Component.{components};
 ghost use Rattle.rows.specs.Answer.{host_number};
 ghost use Rattle.ycbcr.specs.declared.SignalFormat.TheVariants.{YCbCr};
-ghost use Rattle.pq_hlg.specs.Pixel.{peak_refused, sample_refused, pixel_answer, ycbcr_answer, VotedWhere};
+ghost use Rattle.pq_hlg.specs.Pixel.{peak_answer, pixel_answer, ycbcr_answer, VotedWhere};
 ghost use Rattle.pq_hlg.specs.Row.{row_answer, delivered_after, destination_after, source_of};
 
-use quantity::Source;
-use quantity::sample_format::{SampleFormat, format_of, least_taken, most_taken};
-use rows::{PixelAnswer, RowAnswer, host_number, is_outside, test_span};
+use quantity::sample_format::SampleFormat;
+use quantity::{Rgb, Source};
+use refusal::Refusal;
+use rows::{Taken, host_number, test_pixel, test_span};
 use span::{convert_span, pixel_codes, ycbcr_codes};
 use ycbcr::SignalFormat;
 
 // The codes that HLG has.
-const LEAST_CODE: u64 = 64;
-
-const MOST_CODE: u64 = 1019;
+const HLG_CODES: Taken = Taken {
+    least: 64,
+    most: 1019,
+};
 
 // The HLG codes of one pixel. Refuses 5, then 9; its place is 0 for red, 1 for green, 2 for blue.
-pub fn convert_pixel(source: Source, red: u64, green: u64, blue: u64) -> PixelAnswer
-    ensures answer { result ≡ pixel_answer source (pixel red green blue) }
-    ensures voted { VotedWhere result source (pixel red green blue) }
+#[tactic(auto, unfolding(crate::specs::Pixel::pixel_answer, crate::specs::Pixel::VotedWhere))]
+pub fn convert_pixel(source: Source, p: Rgb<u64>) -> Result<Rgb<u64>, Refusal>
+    ensures answer { result ≡ pixel_answer source (components p) }
+    ensures voted { VotedWhere result source (components p) }
 {
-    let format = source.format;
-    if refuses_peak(source.peak) {
-        return PixelAnswer::Refused(5, 0);
-    }
-    if refuses_sample(format, red) {
-        return PixelAnswer::Refused(9, 0);
-    }
-    if refuses_sample(format, green) {
-        return PixelAnswer::Refused(9, 1);
-    }
-    if refuses_sample(format, blue) {
-        return PixelAnswer::Refused(9, 2);
-    }
-    let codes = pixel_codes(source, red, green, blue);
-    PixelAnswer::Codes(codes.red, codes.green, codes.blue)
+    test_peak(source.peak)?;
+    test_pixel(p, Taken::of(source.format))?;
+    Ok(pixel_codes(source, p))
 }
 
-// Luma, Cb and Cr of three RGB codes. Refuses 14, with place 0: a code that HLG does not have.
-pub fn convert_codes(red: u64, green: u64, blue: u64) -> PixelAnswer
-    ensures { result ≡ ycbcr_answer (pixel red green blue) }
+// Luma, Cb and Cr of three RGB codes, in the places of red, green and blue as in a row. Refuses 14: a code that HLG does not have.
+#[tactic(auto, unfolding(crate::specs::Pixel::ycbcr_answer))]
+pub fn convert_codes(p: Rgb<u64>) -> Result<Rgb<u64>, Refusal>
+    ensures { result ≡ ycbcr_answer (components p) }
 {
-    if is_outside(red, LEAST_CODE, MOST_CODE) {
-        return PixelAnswer::Refused(14, 0);
+    if HLG_CODES.refuses(p.red) || HLG_CODES.refuses(p.green) || HLG_CODES.refuses(p.blue) {
+        return Err(Refusal::Code);
     }
-    if is_outside(green, LEAST_CODE, MOST_CODE) {
-        return PixelAnswer::Refused(14, 0);
-    }
-    if is_outside(blue, LEAST_CODE, MOST_CODE) {
-        return PixelAnswer::Refused(14, 0);
-    }
-    let codes = ycbcr_codes(red, green, blue);
-    PixelAnswer::Codes(codes.first, codes.second, codes.third)
+    Ok(ycbcr_codes(p))
 }
 
 // The pixels first to end - 1 of a row, converted into the same places of a destination, whose other bytes remain. Refuses 5 to 9 and then
-// leaves every byte.
+// leaves every byte. First and end stand apart, as the call for a host in C has them.
+#[tactic(auto, unfolding(crate::specs::Row::destination_after))]
 pub fn convert_row(
     source: Source,
     row: &[u8],
     dst: &mut [u8],
     first: usize,
     end: usize,
-) -> RowAnswer
+) -> Result<(), Refusal>
     ensures { (result ≡ row_answer source row.now (length dst.old) first end)
         × (dst.new ≡ destination_after source row.now dst.old first end) }
 {
@@ -83,7 +69,7 @@ pub fn convert_row_ycbcr(
     dst: &mut [u8],
     first: usize,
     end: usize,
-) -> RowAnswer
+) -> Result<(), Refusal>
     ensures { (result ≡ row_answer source row.now (length dst.old) first end)
         × (dst.new ≡ delivered_after YCbCr source row.now dst.old first end) }
 {
@@ -106,7 +92,7 @@ pub fn pq_hlg_convert_row(
     host_number(convert_row(host_source(peak, format), row, dst, first, end))
 }
 
-// The Y'CbCr row call for a host in C: the same number.
+// The Y'CbCr row call for a host in C: the same number. A call of its own, since the C interface has one for each signal format.
 pub fn pq_hlg_convert_row_ycbcr(
     peak: u64,
     format: u64,
@@ -126,12 +112,13 @@ fn host_source(peak: u64, format: u64) -> Source
     ensures { result ≡ source_of peak format }
 {
     Source {
-        peak: peak,
-        format: format_of(format),
+        peak,
+        format: SampleFormat::by_bits(format),
     }
 }
 
 // A row call in a signal format: the tests, then the span.
+#[tactic(auto, unfolding(crate::specs::Row::row_answer))]
 fn deliver_row(
     source: Source,
     format: SignalFormat,
@@ -139,51 +126,28 @@ fn deliver_row(
     dst: &mut [u8],
     first: usize,
     end: usize,
-) -> RowAnswer
+) -> Result<(), Refusal>
     ensures { (result ≡ row_answer source row.now (length dst.old) first end)
         × (dst.new ≡ delivered_after format source row.now dst.old first end) }
 {
-    let answer = test_row(source, row, dst.len(), first, end);
-    if let RowAnswer::Refused(_, _) = answer {
-        return answer;
-    }
-    let from = 6 * first;
-    let to = 6 * end;
-    convert_span(source, format, &row[from..], &mut dst[from..to]);
-    RowAnswer::Converted
+    test_peak(source.peak)?;
+    test_span(row, dst.len(), first..end, Taken::of(source.format))?;
+    convert_span(
+        source,
+        format,
+        &row[6 * first..],
+        &mut dst[6 * first..6 * end],
+    );
+    Ok(())
 }
 
-// The tests of a row call, in order, on a destination of so many bytes.
-fn test_row(source: Source, row: &[u8], bytes: usize, first: usize, end: usize) -> RowAnswer
-    ensures { result ≡ row_answer source row.now bytes first end }
+// Test 5 of a peak, in whole cd/m2.
+#[tactic(auto, unfolding(crate::specs::Pixel::peak_refused))]
+fn test_peak(peak: u64) -> Result<(), Refusal>
+    ensures { result ≡ peak_answer peak }
 {
-    let format = source.format;
-    if refuses_peak(source.peak) {
-        return RowAnswer::Refused(5, 0);
+    if peak == 0 || 10000 < peak {
+        return Err(Refusal::Peak);
     }
-    test_span(
-        row,
-        bytes,
-        first,
-        end,
-        least_taken(format),
-        most_taken(format),
-    )
-}
-
-// A peak of 0 or above 10,000 cd/m2 is refused.
-fn refuses_peak(peak: u64) -> bool
-    ensures { result ≡ peak_refused peak }
-{
-    if peak == 0 {
-        return true;
-    }
-    10000 < peak
-}
-
-// Test 9 of a sample in a format.
-fn refuses_sample(format: SampleFormat, d: u64) -> bool
-    ensures { result ≡ sample_refused format d }
-{
-    is_outside(d, least_taken(format), most_taken(format))
+    Ok(())
 }

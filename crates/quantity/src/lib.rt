@@ -1,10 +1,11 @@
 // The quantities that the engine counts in, each a type of its own so that none is taken for another, and what is declared of a source picture.
 #![tactic(auto)]
 
+pub mod kept;
 pub mod sample_format;
 
-ghost use Rattle.std.specs.Prelude.{◌≡◌, max, min};
-ghost use Rattle.quantity.specs.Component.{pixel, brightest};
+ghost use Rattle.std.specs.Prelude.{◌≡◌, ◌-◌, ◌%◌, ◌^◌, min, get_or};
+ghost use Rattle.quantity.specs.Component.{components, brightest, weighted};
 
 use sample_format::SampleFormat;
 
@@ -37,28 +38,55 @@ pub struct Source {
     pub format: SampleFormat,
 }
 
-// The ends of a range: a stage that is given a number past one reads that end.
-pub fn smaller(a: u64, b: u64) -> u64
-    ensures { result ≡ min a b }
-{
-    if a < b {
-        return a;
-    }
-    b
+// What a pixel has of one kind: codes, lights, a component's shares of each primary.
+#[derive(Clone, Copy, PartialEq, Eq)]
+pub struct Rgb<T> {
+    pub red: T,
+    pub green: T,
+    pub blue: T,
 }
 
-pub fn larger(a: u64, b: u64) -> u64
-    ensures { result ≡ max a b }
-{
-    if a < b {
-        return b;
+impl<T: Copy> Rgb<T> {
+    // What a function makes of each component.
+    pub fn map<U, F: Fn(T) -> U>(self, f: F) -> Rgb<U>
+        requires { F.pre f self.red × F.pre f self.green × F.pre f self.blue }
+        ensures red { F.post f self.red result.red }
+        ensures green { F.post f self.green result.green }
+        ensures blue { F.post f self.blue result.blue }
+    {
+        Rgb {
+            red: f(self.red),
+            green: f(self.green),
+            blue: f(self.blue),
+        }
     }
-    a
 }
 
-// maxRGB: the largest of three components.
-pub fn brightest_of(r: u64, g: u64, b: u64) -> u64
-    ensures { result ≡ brightest (pixel r g b) }
+impl Rgb<u64> {
+    // Y: BT.2100's weights are whole numbers in ten-thousandths of the components' unit. What passes 64 bits is dropped.
+    pub fn weighted(self) -> u64
+        ensures { result ≡ weighted (components self) % 2 ^ 64 }
+    {
+        let red = self.red.wrapping_mul(2627);
+        let green = self.green.wrapping_mul(6780);
+        let blue = self.blue.wrapping_mul(593);
+        red.wrapping_add(green).wrapping_add(blue)
+    }
+
+    // maxRGB: the largest of three components.
+    pub fn brightest(self) -> u64
+        ensures { result ≡ brightest (components self) }
+    {
+        self.red.max(self.green).max(self.blue)
+    }
+}
+
+// Entry i of a table; an index past its end reads the last. A table of no entry has 0.
+pub fn nearest_entry<const N: usize>(table: &[u64; N], i: u64) -> u64
+    ensures { result ≡ get_or table.now (min i (N - 1)) 0 }
 {
-    larger(larger(r, g), b)
+    if N == 0 {
+        return 0;
+    }
+    table[i.min(N as u64 - 1) as usize]
 }

@@ -1,7 +1,6 @@
 -- What is settled between two lights is the PQ code of the display light between them, by the bounds of a luminance's root or by exact comparisons.
-use Rattle.std.proofs.Common.{◌≡◌, ℕ, ◌+◌, ◌-◌, ◌*◌, ◌/◌, ◌^◌, ◌<◌, ◌≤◌, min, Bool, true, false, List, sym, ◌∙◌, subst, le_refl, le_antisymm, arith, lit<}
+use Rattle.std.proofs.Common.{◌≡◌, ℕ, ◌+◌, ◌*◌, ◌/◌, ◌^◌, ◌<◌, ◌≤◌, min, Bool, true, false, List, sym, ◌∙◌, subst, le_refl, arith, lit<}
 use Rattle.std.proofs.Common.{leb-false, leb-true}
-use native.Mathlib.Decide.{dec_le}
 use Rattle.laws.proofs.DivisionLaws.{floor_le, lt_floor}
 use Rattle.quantity.specs.Units.{ten_thousand}
 use Rattle.inverse_oetf.specs.SceneTable.{scene_light}
@@ -14,42 +13,15 @@ use Rattle.inverse_eotf.specs.Code.{threshold_in, pq_code}
 use Rattle.inverse_eotf.specs.ThresholdTable.{threshold_table}
 use Rattle.inverse_eotf.proofs.CodeLaws.{settled}
 use Rattle.inverse_eotf.proofs.TableLaws.{threshold_read, threshold_le}
-use Rattle.return_span.specs.Settled.{Between, Settled}
-
--- ---- a search over the codes from lo to hi: a middle that is reached leaves those from it on, one that is missed those below it
-pub only : (t : List ℕ) (light lo hi : ℕ) → lo ≤ hi → hi ≤ lo → Between t light lo hi lo
-only t light lo hi l h = record { from = le_refl lo; to = l; reached = λ k. absurd (omega arith); missed = λ k. absurd (omega arith) }
-
-pub upper : (t : List ℕ) (light lo middle hi D : ℕ) → lo ≤ middle → threshold_in t middle ≤ light → Between t light middle hi D
-    → Between t light lo hi D
-upper t light lo middle hi D l r h = record { from = omega (arith, h.from); to = h.to; reached = λ k. go (dec_le D middle); missed = h.missed }
-  where
-    go : Dec (D ≤ middle) → threshold_in t D ≤ light
-    go (yes p) = subst (λ (x : ℕ). threshold_in t x ≤ light) (le_antisymm h.from p) r
-    go (no p) = h.reached (omega arith)
-
-pub lower : (t : List ℕ) (light lo middle hi D : ℕ) → 64 < middle → middle ≤ hi → light < threshold_in t middle
-    → Between t light lo (middle - 1) D → Between t light lo hi D
-lower t light lo middle hi D some l r h =
-    record { from = h.from; to = omega (arith, h.to); reached = h.reached; missed = λ k. go (dec_le (middle - 1) D) }
-  where
-    go : Dec (middle - 1 ≤ D) → light < threshold_in t (D + 1)
-    go (yes p) =
-        let k : middle ≡ D + 1 = omega (arith, h.to) in
-        subst (λ (x : ℕ). light < threshold_in t x) k r
-    go (no p) = h.missed (omega arith)
-
--- over all codes it finds the code
-pub found : (t : List ℕ) (c D : ℕ) → t ≡ threshold_table → Between t c 64 940 D → D ≡ pq_code c
-found t c D e h =
-    settled c c c D (le_refl c) (le_refl c) h.from h.to
-    (λ l. subst (λ (x : ℕ). x ≤ c) (threshold_read t D e (omega arith) h.to) (h.reached l))
-    (λ l. subst (λ (x : ℕ). c < x) (threshold_read t (D + 1) e (omega (arith, h.from)) (omega arith)) (h.missed l))
+use Rattle.return_span.specs.Settled.{Settled}
 
 -- ---- a display light from the threshold of D on and below the next one
 module _ (t : List ℕ) (c D : ℕ) (e : t ≡ threshold_table) (from : 64 ≤ D) (to : D ≤ 939) where
   pub code_between : (64 < D → threshold_in t D ≤ c) → c < threshold_in t (D + 1) → D ≡ pq_code c
-  code_between reached missed = found t c D e (record { from = from; to = omega arith; reached = reached; missed = λ _. missed })
+  code_between reached missed =
+      settled c c c D (le_refl c) (le_refl c) from (omega arith)
+      (λ l. subst (λ (x : ℕ). x ≤ c) (threshold_read t D e (omega arith) (omega arith)) (reached l))
+      (λ l. subst (λ (x : ℕ). c < x) (threshold_read t (D + 1) e (omega arith) (omega arith)) missed)
 
 -- the upper word of a root and 2^23 times a scene light is display light, rounded down
 under_root : (s g low : ℕ) → low ≡ 8388608 * s * g / 2 ^ 64 → low * 2 ^ 41 ≤ s * g

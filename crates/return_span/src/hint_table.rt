@@ -1,6 +1,6 @@
 // Made by `python3 tools/return_hints.py source`. Hints: a test confirms each one's use, so nothing rests on these values. Entries 32 to 895 are
 // lines of codes, 896 to 1,540 roots of luminances.
-pub const HINTS: [u64; 1541] = [
+pub static HINTS: [u64; 1541] = [
     0,
     0,
     0,

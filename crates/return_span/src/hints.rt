@@ -1,6 +1,5 @@
 // Guesses that spare work where a test confirms them. Nothing rests on their values: no function here promises one, each is only safe.
 use crate::hint_table::HINTS;
-use std::num::{wrapping_add_u64, wrapping_sub_u64};
 use words::{leading_zeros, upper_word};
 
 // 2^58, 2^56 and 2^38: a word over them is its six, its eight or its 26 leading bits.
@@ -15,31 +14,25 @@ const SLOPES: u64 = 1048576;
 
 const CODE: u64 = 4294967296;
 
-// The hints. Each mention of the constant fills an array, so it is mentioned here alone: taken once a call and lent.
-pub(crate) fn hint_table() -> [u64; 1541] {
-    HINTS
-}
-
 // A root, to fill a word, of the luminance n / 2^(z % 5), n being one that was shifted by its z leading zeros: in a straight line from one entry to the
 // next.
-pub(crate) fn root_hint(hints: &[u64; 1541], n: u64, z: u64) -> u64 {
+pub(crate) fn root_hint(n: u64, z: u64) -> u64 {
     let i = (768 + 129 * (z % 5) + n / FIRST_EIGHT) as usize;
-    let entry = hints[i];
-    let rise = wrapping_sub_u64(hints[i + 1], entry);
-    wrapping_add_u64(entry, upper_word(rise, n % FIRST_EIGHT * 256))
+    let entry = HINTS[i];
+    let rise = HINTS[i + 1].wrapping_sub(entry);
+    entry.wrapping_add(upper_word(rise, n % FIRST_EIGHT * 256))
 }
 
-// The PQ code of a light: the height of a line over its leading bits. An entry holds the line's slope in its low 20 bits and its start above them.
-pub(crate) fn code_hint(hints: &[u64; 1541], light: u64) -> u64 {
+// The PQ code of a light: the height of a line over its leading bits. An entry holds the line's slope in its low 20 bits and its start above them. No line
+// stands over black and over what is brighter than the display: 64 is black's code, and elsewhere a guess that goes the way of any that its test refuses, as a
+// None would.
+pub(crate) fn code_hint(light: u64) -> u64 {
     let z = leading_zeros(light);
-    if z < 29 {
-        return 64;
-    }
-    if 55 < z {
+    if z < 29 || 55 < z {
         return 64;
     }
     let n = light << z;
     let i = ((55 - z) * 32 + n / FIRST_SIX) as usize;
-    let line = hints[i];
-    wrapping_add_u64(line, line % SLOPES * (n / LEADING_BITS)) / CODE
+    let line = HINTS[i];
+    line.wrapping_add(line % SLOPES * (n / LEADING_BITS)) / CODE
 }

@@ -1,4 +1,4 @@
-// The fast conversion from HLG to PQ, of a span and of one pixel: any samples. The tables are filled once a call and lent.
+// The fast conversion from HLG to PQ, of a span and of one pixel: any samples.
 #![tactic(auto)]
 
 mod block;
@@ -8,99 +8,39 @@ mod near;
 mod root;
 mod scene;
 
-ghost use Rattle.std.specs.Prelude.{◌≡◌, ◌*◌, ◌≤◌, ◌++◌, length, drop};
-ghost use Rattle.inverse_oetf.specs.SceneTable.{scene_table};
-ghost use Rattle.inverse_eotf.specs.ThresholdTable.{threshold_table};
+ghost use Rattle.std.specs.Prelude.{◌≡◌, ◌*◌, ◌/◌, length};
 ghost use Rattle.return_pixel.specs.Conversion.{pq_codes};
 ghost use Rattle.rows.specs.Row.{span_bytes, converted_into};
 ghost use Rattle.return_span.specs.Codes.{HasCodes};
 
-use block::{code_pixels, root_pixels};
-use hints::hint_table;
-use inverse_eotf::threshold_table;
-use inverse_oetf::scene_table;
-use near::near_codes;
-use rows::fewer;
-use scene::rooted;
+use block::{BYTES, DARK, PIXELS, code_pixels, root_pixels};
+use quantity::Rgb;
+use scene::Rooted;
 
-// The PQ codes of a pixel, 64 to 779 each.
-#[derive(Clone, Copy)]
-pub struct Codes {
-    pub red: u64,
-    pub green: u64,
-    pub blue: u64,
-}
-
-// The pixels that fill dst, converted from the first ones of src: as many whole ones as both have. Other bytes of dst remain. An empty span needs
-// no table.
+// The pixels that fill dst, converted from the first ones of src: as many whole ones as both have. Other bytes of dst remain.
 pub fn convert_span(src: &[u8], dst: &mut [u8])
     ensures { dst.new ≡ converted_into pq_codes src.now dst.old }
 {
-    let pixels = fewer(src.len(), dst.len()) / 6;
-    if pixels == 0 {
-        return;
-    }
-    let scene = scene_table();
-    let thresholds = threshold_table();
-    let hints = hint_table();
-    convert_blocks(&scene, &thresholds, &hints, src, dst, pixels);
+    let bytes = src.len().min(dst.len()) / 6 * 6;
+    convert_blocks(&src[..bytes], &mut dst[..bytes]);
 }
 
-// The PQ codes of one pixel, for which alone the tables are filled.
-pub fn pixel_codes(r: u64, g: u64, b: u64) -> Codes
-    ensures { HasCodes r g b result.red result.green result.blue }
+// The PQ codes of one pixel, 64 to 779 each.
+pub fn pixel_codes(p: Rgb<u64>) -> Rgb<u64>
+    ensures { HasCodes p.red p.green p.blue result.red result.green result.blue }
 {
-    let scene = scene_table();
-    let thresholds = threshold_table();
-    let hints = hint_table();
-    near_codes(&thresholds, &hints, rooted(&scene, &hints, r, g, b))
+    Rooted::of(p).codes()
 }
 
-// The first pixels of dst, converted from those of src, block by block. Other bytes of dst remain.
-fn convert_blocks(
-    scene: &[u64; 956],
-    thresholds: &[u64; 876],
-    hints: &[u64; 1541],
-    src: &[u8],
-    dst: &mut [u8],
-    pixels: usize,
-)
-    requires { (scene.now ≡ scene_table) × (thresholds.now ≡ threshold_table) × (6 * pixels ≤ length dst.old) × (6 * pixels ≤ length src.now) }
-    ensures { dst.new ≡ span_bytes pq_codes src.now 0 pixels ++ drop (6 * pixels) dst.old }
+// Whole pixels, converted block by block.
+fn convert_blocks(src: &[u8], dst: &mut [u8])
+    requires { (length dst.old ≡ length src.now) × (length src.now ≡ 6 * (length src.now / 6)) }
+    ensures { dst.new ≡ span_bytes pq_codes src.now 0 (length src.now / 6) }
 {
-    let mut red = [0u64; 64];
-    let mut green = [0u64; 64];
-    let mut blue = [0u64; 64];
-    let mut low = [0u64; 64];
-    let mut high = [0u64; 64];
-    let mut j = 0;
-    while j < pixels {
-        let count = fewer(pixels - j, 64);
-        let from = 6 * j;
-        let to = from + 6 * count;
-        root_pixels(
-            scene,
-            hints,
-            &src[from..to],
-            &mut red,
-            &mut green,
-            &mut blue,
-            &mut low,
-            &mut high,
-            count,
-        );
-        code_pixels(
-            thresholds,
-            hints,
-            &red,
-            &green,
-            &blue,
-            &low,
-            &high,
-            &src[from..to],
-            &mut dst[from..to],
-            count,
-        );
-        j += count;
+    let mut block = [DARK; PIXELS];
+    for (k, bytes) in src.chunks(BYTES).enumerate() {
+        let from = BYTES * k; // by its place: after `chunks_mut` no proof knows the bytes, so this one did not close
+        root_pixels(bytes, &mut block);
+        code_pixels(&block, bytes, &mut dst[from..from + bytes.len()]);
     }
 }

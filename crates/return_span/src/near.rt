@@ -1,179 +1,129 @@
 // The PQ codes of a pixel by a root of its luminance. A code is guessed and tested by its threshold and the next one's: nearly always that settles it in a
 // few products. What it leaves open goes to the exact comparison with a threshold, and what that leaves open to the exact display light.
-ghost use Rattle.std.specs.Prelude.{◌≡◌, ◌*◌, ◌<◌, ◌≤◌, true};
-ghost use Rattle.quantity.specs.Component.{pixel, weighted};
+ghost use Rattle.std.specs.Prelude.{◌≡◌, ℕ, ◌*◌, ◌≤◌, true, IfSome};
+ghost use Rattle.quantity.specs.Component.{components, weighted};
 ghost use Rattle.ootf.specs.Light.{display_light};
 ghost use Rattle.inverse_eotf.specs.Code.{pq_code};
 ghost use Rattle.inverse_eotf.specs.ThresholdTable.{threshold_table};
-ghost use Rattle.return_span.specs.Codes.{HasCodes};
-ghost use Rattle.return_span.specs.Settled.{SceneCodes, Enclosed, HasRoot, Between, Settled};
+ghost use Rattle.return_span.specs.Settled.{SceneCodes, HasRoot, OfCodes, Enclose, Settled};
 
-use crate::Codes;
 use crate::hints::code_hint;
 use crate::root::Roots;
-use crate::scene::{RootedPixel, weigh};
-use inverse_eotf::threshold_in;
+use crate::scene::{Rooted, weigh};
+use inverse_eotf::{pq_code_of, threshold_in, threshold_table};
 use ootf::{display_lights, has_light};
-use quantity::{DisplayLight, SceneLight, smaller};
+use quantity::{DisplayLight, Rgb, SceneLight};
 use words::upper_word;
 
 // 2^23: the upper word of so many times a scene light and a root is display light, in units.
 const SCENE: u64 = 8388608;
 
-// The PQ codes of a pixel, by a lent table.
-pub(crate) fn near_codes(thresholds: &[u64; 876], hints: &[u64; 1541], p: RootedPixel) -> Codes
-    requires { (thresholds.now ≡ threshold_table)
-        × HasRoot p.red p.green p.blue p.scene.red p.scene.green p.scene.blue p.roots.low p.roots.high }
-    ensures { HasCodes p.red p.green p.blue result.red result.green result.blue }
-{
-    scene_codes(
-        thresholds,
-        hints,
-        p.roots,
-        p.scene.red,
-        p.scene.green,
-        p.scene.blue,
-    )
-}
-
-// The PQ codes of three scene lights, of which a root of the luminance was found or not.
-fn scene_codes(
-    thresholds: &[u64; 876],
-    hints: &[u64; 1541],
-    roots: Roots,
-    red: u64,
-    green: u64,
-    blue: u64,
-) -> Codes
-    requires { (thresholds.now ≡ threshold_table) × Enclosed roots.low roots.high (weighted (pixel red green blue))
-        × (red ≤ 1803467062476) × (green ≤ 1803467062476) × (blue ≤ 1803467062476) }
-    ensures { SceneCodes red green blue result.red result.green result.blue }
-{
-    let y = weigh(red, green, blue);
-    let r = near_code(thresholds, hints, roots, y, red);
-    let g = near_code(thresholds, hints, roots, y, green);
-    let b = near_code(thresholds, hints, roots, y, blue);
-    if smaller(smaller(r, g), b) == 0 {
-        return exact_codes(thresholds, red, green, blue);
+impl Rooted {
+    // The PQ codes of a pixel.
+    pub(crate) fn codes(self) -> Rgb<u64>
+        requires { HasRoot self × OfCodes self.scene }
+        ensures { SceneCodes self.scene.red self.scene.green self.scene.blue result.red result.green result.blue }
+    {
+        match self.near_codes() {
+            Some(codes) => codes,
+            None => exact_codes(self.scene),
+        }
     }
-    Codes {
-        red: r,
-        green: g,
-        blue: b,
+
+    // Those by the root, where one was found and settles them.
+    fn near_codes(self) -> Option<Rgb<u64>>
+        requires { HasRoot self × OfCodes self.scene }
+        ensures { IfSome result (λ codes. SceneCodes self.scene.red self.scene.green self.scene.blue codes.red codes.green codes.blue) }
+    {
+        let roots = self.roots?;
+        let y = weigh(self.scene);
+        Some(Rgb {
+            red: near_code(roots, y, self.scene.red)?,
+            green: near_code(roots, y, self.scene.green)?,
+            blue: near_code(roots, y, self.scene.blue)?,
+        })
     }
 }
 
 // The codes by the exact display lights.
-fn exact_codes(thresholds: &[u64; 876], red: u64, green: u64, blue: u64) -> Codes
-    requires { (thresholds.now ≡ threshold_table) × (red ≤ 1803467062476) × (green ≤ 1803467062476) × (blue ≤ 1803467062476) }
-    ensures { SceneCodes red green blue result.red result.green result.blue }
+fn exact_codes(scene: Rgb<u64>) -> Rgb<u64>
+    requires { OfCodes scene }
+    ensures { SceneCodes scene.red scene.green scene.blue result.red result.green result.blue }
 {
-    let light = display_lights(SceneLight(red), SceneLight(green), SceneLight(blue));
-    Codes {
-        red: code_of(thresholds, light.red),
-        green: code_of(thresholds, light.green),
-        blue: code_of(thresholds, light.blue),
+    let lights = display_lights(Rgb {
+        red: SceneLight(scene.red),
+        green: SceneLight(scene.green),
+        blue: SceneLight(scene.blue),
+    });
+    Rgb {
+        red: pq_code_of(lights.red),
+        green: pq_code_of(lights.green),
+        blue: pq_code_of(lights.blue),
     }
 }
 
-// The code of a light, by a table that is already filled.
-fn code_of(thresholds: &[u64; 876], light: DisplayLight) -> u64
-    requires { thresholds.now ≡ threshold_table }
-    ensures { result ≡ pq_code light.0 }
+// The code of a component with scene light s in a pixel of luminance y, where it does not stay open.
+fn near_code(roots: Roots, y: u64, s: u64) -> Option<u64>
+    requires { Enclose roots y × (y ≤ 10000 * 1803467062476) × (s ≤ 1803467062476) }
+    ensures { IfSome result (λ d. d ≡ pq_code (display_light y s)) }
 {
-    search_code(thresholds, light.0, 64, 940)
-}
-
-// A code from lo to hi whose threshold a light reaches while it misses the next one's, by halving. The span hi - lo falls.
-fn search_code(thresholds: &[u64; 876], light: u64, lo: u64, hi: u64) -> u64
-    requires { (64 ≤ lo) × (lo ≤ hi) × (hi ≤ 940) }
-    ensures { Between thresholds.now light lo hi result }
-{
-    if hi <= lo {
-        return lo;
-    }
-    let middle = hi - (hi - lo) / 2;
-    let threshold = threshold_in(thresholds, middle);
-    if threshold.0 <= light {
-        search_code(thresholds, light, middle, hi)
-    } else {
-        search_code(thresholds, light, lo, middle - 1)
-    }
-}
-
-// The code of a component with scene light s in a pixel of luminance y, or 0 where it stays open.
-fn near_code(thresholds: &[u64; 876], hints: &[u64; 1541], roots: Roots, y: u64, s: u64) -> u64
-    requires { (thresholds.now ≡ threshold_table) × Enclosed roots.low roots.high y × (y ≤ 10000 * 1803467062476) × (s ≤ 1803467062476) }
-    ensures { 0 < result → result ≡ pq_code (display_light y s) }
-{
-    if roots.high == 0 {
-        return 0;
-    }
     let low = upper_word(SCENE * s, roots.low);
     let high = upper_word(SCENE * s, roots.high);
-    let d = code_hint(hints, low);
-    if is_settled(thresholds, low, high, d) {
-        return d;
+    let d = code_hint(low);
+    if is_settled(low, high, d) {
+        return Some(d);
     }
-    let e = search_code(thresholds, low, 64, 940);
-    if is_settled(thresholds, low, high, e) {
-        return e;
-    }
-    open_code(thresholds, y, s, e)
+    searched_code(low, high, y, s)
 }
 
-// Whether a light from low to high has the code d, by its threshold and the next one's.
-fn is_settled(thresholds: &[u64; 876], low: u64, high: u64, d: u64) -> bool
-    ensures { result ≡ true → Settled thresholds.now low high d }
+// The code where the hinted one is not settled: that of the lower light, by halving, or by the exact comparison where a threshold stands between both
+// lights. Few come here, and by a call of its own it costs the others nothing.
+#[cold]
+#[inline(never)]
+fn searched_code(low: u64, high: u64, y: u64, s: u64) -> Option<u64>
+    requires { (y ≤ 10000 * 1803467062476) × (s ≤ 1803467062476)
+        × ((d : ℕ) → Settled threshold_table low high d → d ≡ pq_code (display_light y s)) }
+    ensures { IfSome result (λ d. d ≡ pq_code (display_light y s)) }
 {
-    if d < 64 {
-        return false;
+    let d = pq_code_of(DisplayLight(low));
+    if is_settled(low, high, d) {
+        return Some(d);
     }
-    if 939 < d {
-        return false;
-    }
-    let next = threshold_in(thresholds, d + 1);
-    if next.0 <= high {
-        return false;
-    }
-    if d == 64 {
-        return true;
-    }
-    let own = threshold_in(thresholds, d);
-    own.0 <= low
+    open_code(y, s, d)
 }
 
-// The code d or the next one, whichever the exact comparison confirms; 0 where it confirms neither.
-fn open_code(thresholds: &[u64; 876], y: u64, s: u64, d: u64) -> u64
-    requires { (thresholds.now ≡ threshold_table) × (y ≤ 10000 * 1803467062476) × (s ≤ 1803467062476) }
-    ensures { 0 < result → result ≡ pq_code (display_light y s) }
+// Whether each light from low to high has the code d, by its threshold and the next one's.
+fn is_settled(low: u64, high: u64, d: u64) -> bool
+    ensures { result ≡ true → Settled threshold_table low high d }
 {
-    if is_code(thresholds, y, s, d) {
-        return d;
+    let table = threshold_table();
+    (64..=939).contains(&d)
+        && high < threshold_in(table, d + 1).0
+        && (d == 64 || threshold_in(table, d).0 <= low)
+}
+
+// The code d or the next one, whichever the exact comparison confirms.
+fn open_code(y: u64, s: u64, d: u64) -> Option<u64>
+    requires { (y ≤ 10000 * 1803467062476) × (s ≤ 1803467062476) }
+    ensures { IfSome result (λ code. code ≡ pq_code (display_light y s)) }
+{
+    if is_code(y, s, d) {
+        return Some(d);
     }
-    let next = smaller(d, 939) + 1;
-    if is_code(thresholds, y, s, next) {
-        return next;
+    let next = d.min(939) + 1;
+    if is_code(y, s, next) {
+        return Some(next);
     }
-    0
+    None
 }
 
 // Whether a component has the code d, by the exact comparison with its threshold and the next one's.
-fn is_code(thresholds: &[u64; 876], y: u64, s: u64, d: u64) -> bool
-    requires { (thresholds.now ≡ threshold_table) × (y ≤ 10000 * 1803467062476) × (s ≤ 1803467062476) }
+fn is_code(y: u64, s: u64, d: u64) -> bool
+    requires { (y ≤ 10000 * 1803467062476) × (s ≤ 1803467062476) }
     ensures { result ≡ true → d ≡ pq_code (display_light y s) }
 {
-    if d < 64 {
-        return false;
-    }
-    if 939 < d {
-        return false;
-    }
-    if has_light(y, SceneLight(s), threshold_in(thresholds, d + 1)) {
-        return false;
-    }
-    if d == 64 {
-        return true;
-    }
-    has_light(y, SceneLight(s), threshold_in(thresholds, d))
+    let table = threshold_table();
+    (64..=939).contains(&d)
+        && !has_light(y, SceneLight(s), threshold_in(table, d + 1))
+        && (d == 64 || has_light(y, SceneLight(s), threshold_in(table, d)))
 }

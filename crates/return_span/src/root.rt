@@ -1,6 +1,7 @@
 // The fifth root of a luminance, enclosed: a guess of it is raised to the fifth power in three products, and where that comes near enough to the power
 // that the root has, the root lies within a part of the guess around it.
-ghost use Rattle.return_span.specs.Settled.{Enclosed};
+ghost use Rattle.std.specs.Prelude.{IfSome};
+ghost use Rattle.return_span.specs.Settled.{Enclose};
 
 use crate::hints::root_hint;
 use words::{leading_zeros, upper_word};
@@ -17,35 +18,33 @@ const NEAR: u64 = 18;
 // What three products, each rounded down, fall short of the power by at most, in its units.
 const ROUNDED: u64 = 4;
 
-// Two numbers that enclose the root of 2^96 × 5^11 × Y, the upper one 0 where none were found.
+// Two numbers that enclose the root of 2^96 × 5^11 × Y.
 #[derive(Clone, Copy)]
 pub(crate) struct Roots {
     pub low: u64,
     pub high: u64,
 }
 
-pub(crate) fn roots_of(hints: &[u64; 1541], y: u64) -> Roots
-    ensures { Enclosed result.low result.high y }
+// The bounds of a luminance's root, where the guess comes near enough.
+pub(crate) fn roots_of(y: u64) -> Option<Roots>
+    ensures { IfSome result (λ r. Enclose r y) }
 {
-    let z = leading_zeros(y);
-    if 63 < z {
-        return Roots { low: 0, high: 1 };
+    if y == 0 {
+        return Some(Roots { low: 0, high: 1 });
     }
+    let z = leading_zeros(y);
     let n = y << z;
     let power = upper_word(n >> (z % 5), WEIGHT);
-    let guess = root_hint(hints, n, z);
+    let guess = root_hint(n, z);
     let square = upper_word(guess, guess);
     let fifth = upper_word(upper_word(square, square), guess);
-    if power < fifth - (fifth >> NEAR) + ROUNDED {
-        return Roots { low: 0, high: 0 };
-    }
-    if fifth <= power - (power >> NEAR) {
-        return Roots { low: 0, high: 0 };
+    if power < fifth - (fifth >> NEAR) + ROUNDED || fifth <= power - (power >> NEAR) {
+        return None;
     }
     let part = (guess >> PART) + 1;
     let shift = 26 + z / 5;
-    Roots {
+    Some(Roots {
         low: (guess - part) >> shift,
         high: (guess >> shift) + (part >> shift) + 2,
-    }
+    })
 }

@@ -1,58 +1,41 @@
 // What a pixel's codes are made of: its scene lights, and a root of their luminance.
 ghost use Rattle.std.specs.Prelude.{◌≡◌, ◌*◌, ◌≤◌};
-ghost use Rattle.quantity.specs.Component.{pixel, weighted};
-ghost use Rattle.inverse_oetf.specs.SceneTable.{scene_table};
-ghost use Rattle.return_span.specs.Settled.{HasRoot};
+ghost use Rattle.quantity.specs.Component.{components, weighted};
+ghost use Rattle.return_span.specs.Settled.{OfCodes, IsRooted};
 
 use crate::root::{Roots, roots_of};
-use inverse_oetf::scene_light_in;
+use inverse_oetf::{scene_light_in, scene_table};
+use quantity::Rgb;
 
-// A pixel's samples, their scene lights and the bounds of a root of their luminance.
+// The scene lights of a pixel, in 1/2^40 of the nominal range, and the bounds of a root of their luminance where some were found.
 #[derive(Clone, Copy)]
-pub(crate) struct RootedPixel {
-    pub red: u64,
-    pub green: u64,
-    pub blue: u64,
-    pub scene: Scene,
-    pub roots: Roots,
+pub(crate) struct Rooted {
+    pub scene: Rgb<u64>,
+    pub roots: Option<Roots>,
 }
 
-// The scene lights of a pixel.
-#[derive(Clone, Copy)]
-pub(crate) struct Scene {
-    pub red: u64,
-    pub green: u64,
-    pub blue: u64,
-}
-
-// The pixel of three samples, with its scene lights and its root.
-pub(crate) fn rooted(scene: &[u64; 956], hints: &[u64; 1541], r: u64, g: u64, b: u64) -> RootedPixel
-    requires { scene.now ≡ scene_table }
-    ensures { (result.red ≡ r) × (result.green ≡ g) × (result.blue ≡ b)
-        × HasRoot result.red result.green result.blue result.scene.red result.scene.green result.scene.blue result.roots.low result.roots.high }
-{
-    let red = scene_light_in(scene, r);
-    let green = scene_light_in(scene, g);
-    let blue = scene_light_in(scene, b);
-    let lights = Scene {
-        red: red.0,
-        green: green.0,
-        blue: blue.0,
-    };
-    let y = weigh(red.0, green.0, blue.0);
-    RootedPixel {
-        red: r,
-        green: g,
-        blue: b,
-        scene: lights,
-        roots: roots_of(hints, y),
+impl Rooted {
+    // Those of the pixel of three samples.
+    pub(crate) fn of(p: Rgb<u64>) -> Rooted
+        ensures { IsRooted (components p) result }
+    {
+        let table = scene_table();
+        let scene = Rgb {
+            red: scene_light_in(table, p.red).0,
+            green: scene_light_in(table, p.green).0,
+            blue: scene_light_in(table, p.blue).0,
+        };
+        Rooted {
+            scene,
+            roots: roots_of(weigh(scene)),
+        }
     }
 }
 
 // Y, in ten-thousandths of the scene lights' unit. `luminance_of` would read each at its range's end first.
-pub(crate) fn weigh(red: u64, green: u64, blue: u64) -> u64
-    requires { (red ≤ 1803467062476) × (green ≤ 1803467062476) × (blue ≤ 1803467062476) }
-    ensures { (result ≡ weighted (pixel red green blue)) × (result ≤ 10000 * 1803467062476) }
+pub(crate) fn weigh(scene: Rgb<u64>) -> u64
+    requires { OfCodes scene }
+    ensures { (result ≡ weighted (components scene)) × (result ≤ 10000 * 1803467062476) }
 {
-    2627 * red + 6780 * green + 593 * blue
+    scene.weighted()
 }

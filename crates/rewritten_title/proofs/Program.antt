@@ -12,10 +12,10 @@ use lib.Seq.{take_all}
 use borrow.Author.Tests.{lt-ltb, le-ltb}
 use Rattle.listing.specs.Text.{refusal_line_within}
 use Rattle.metadata.specs.Card.{card_answer, following}
-use Rattle.metadata.specs.Rewriting.{rewriting, rewritten_by, rewritten}
-use Rattle.metadata.specs.declared.SourceAnswer.TheVariants as card
-use Rattle.metadata.specs.declared.rewriting.Rewriting.{Rewriting}
-use Rattle.metadata.specs.declared.rewriting.Rewriting.TheVariants.{Opening, Nothing, Refused}
+use Rattle.metadata.specs.Rewriting.{Rewriting, rewriting, rewritten_by, rewritten}
+use Rattle.std.specs.Prelude.{Some, None, Ok, Err}
+use Rattle.refusal.specs.Number.{number}
+use Rattle.refusal.specs.declared.Refusal.TheVariants.{NoPeak}
 use Rattle.metadata.proofs.CardLaws.{wants_within, follows_unnamed}
 use Rattle.metadata.proofs.RewritingLaws.{unnamed_of, rewriting_settled}
 use Rattle.rewritten_title.specs.Title.{told_of, told}
@@ -29,14 +29,13 @@ copied (suc blocks) rest =
 
 -- `copy_title`: what is written to standard output, where so much is copied after the first bytes, and what is told
 abbrev pub copy_title : Rewriting → List ℕ → List ℕ → List ℕ
-copy_title (Opening bits high low) opening copy = (bits ∷ high ∷ low ∷ []) ++ (following opening ++ copy)
-copy_title Nothing opening copy = opening ++ copy
-copy_title (Refused number) opening copy = []
+copy_title (Ok (Some card)) opening copy = card ++ (following opening ++ copy)
+copy_title (Ok None) opening copy = opening ++ copy
+copy_title (Err refusal) opening copy = []
 
 abbrev pub tell_title : Rewriting → List ℕ
-tell_title (Opening bits high low) = []
-tell_title Nothing = []
-tell_title (Refused number) = refusal_line_within number 29
+tell_title (Ok new) = []
+tell_title (Err refusal) = refusal_line_within (number refusal) 29
 
 -- `rewrite_title`
 unfoldable pub program_bytes : ℕ → List ℕ → List ℕ
@@ -75,7 +74,7 @@ first_bytes title = go (dec_lt (length title) 5)
         let settled = rewriting_settled (take 5 title) (drop 5 title) (omega (arith, wants_within (take 5 title))) (omega arith) in
         sym settled ∙ ap rewriting (take-append-drop 5 title)
 
-first_follows : (title : List ℕ) → card_answer (take 5 title) ≡ card.Refused 17 → following (take 5 title) ++ drop 5 title ≡ following title
+first_follows : (title : List ℕ) → card_answer (take 5 title) ≡ Err NoPeak → following (take 5 title) ++ drop 5 title ≡ following title
 first_follows title h = sym (follows_unnamed (take 5 title) (drop 5 title) h) ∙ ap following (take-append-drop 5 title)
 
 -- The program copies the title with its card rewritten, and tells what is told of it, whatever the title's bytes, where the blocks are enough.
@@ -85,15 +84,14 @@ program_bytes_lem blocks title h =
     rw (all_copied blocks (drop 5 title) (omega (arith, length-drop 5 title)), ← first_bytes title) (go (rewriting (take 5 title)) refl)
   where
     go : (r : Rewriting) → rewriting (take 5 title) ≡ r → copy_title r (take 5 title) (drop 5 title) ≡ rewritten_by r title
-    go (Opening bits high low) e = ap (λ (l : List ℕ). bits ∷ high ∷ low ∷ l) (first_follows title (unnamed_of (take 5 title) e))
-    go Nothing e = take-append-drop 5 title
-    go (Refused number) e = refl
+    go (Ok (Some card)) e = ap (λ (l : List ℕ). card ++ l) (first_follows title (unnamed_of (take 5 title) e))
+    go (Ok None) e = take-append-drop 5 title
+    go (Err refusal) e = refl
 
 pub program_tells : (title : List ℕ) → program_told title ≡ told title
 unfolding program_told told refusal_line_within
 program_tells title = rw (first_bytes title) (go (rewriting title))
   where
     go : (r : Rewriting) → tell_title r ≡ told_of r
-    go (Opening bits high low) = refl
-    go Nothing = refl
-    go (Refused number) = refl
+    go (Ok new) = refl
+    go (Err refusal) = refl

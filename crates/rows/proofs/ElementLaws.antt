@@ -1,27 +1,23 @@
 -- Laws of rows whose samples each come from one element, whatever the elements are: what passed tests say, that the pixels of a part of a row are the row's,
 -- and the destination after a call that converts.
-use Rattle.std.proofs.Common.{◌≡◌, ℕ, ◌+◌, ◌-◌, ◌*◌, ◌/◌, ◌%◌, ◌<◌, ◌≤◌, false, not, eqb, ltb, List, ◌++◌, length, get_or, take, drop, sym, refl, ap, ◌∙◌}
-use Rattle.std.proofs.Common.{arith, length-drop, length-take, get_or-drop, get_or-take, ltb-false, eqb-true}
-use borrow.Author.Tests.{not-false}
+use Rattle.std.proofs.Common.{◌≡◌, ℕ, ◌+◌, ◌-◌, ◌*◌, ◌/◌, ◌%◌, ◌<◌, ◌≤◌, false, List, ◌++◌, length, get_or, take, drop, sym, refl, ap, ◌∙◌, arith}
+use Rattle.std.proofs.Common.{length-drop, length-take, get_or-drop, get_or-take, Result, Ok, Err}
 use Rattle.quantity.specs.Component.{Pixel}
-use Rattle.rows.specs.declared.RowAnswer.{RowAnswer}
-use Rattle.rows.specs.declared.RowAnswer.TheVariants.{Converted, Refused}
+use Rattle.refusal.specs.declared.Refusal.{Refusal}
+use Rattle.refusal.specs.declared.Refusal.TheVariants.{DestinationLength, Span}
 use Rattle.rows.specs.Row.{pixels_bytes}
 use Rattle.rows.specs.Answer.{destination_refused, span_refused, pixels_after, host_number}
 use Rattle.rows.specs.Element.{elements_at, converted_elements, elements_into, elements_refused, elements_answer, and_then}
 use Rattle.rows.proofs.RowLaws.{pixels_same}
 use Rattle.rows.proofs.SpanLaws.{filled}
-use Rattle.rows.proofs.AnswerLaws.{neither, either, refused_not_converted, destination_taken, span_taken, pixels_after_lem}
+use Rattle.rows.proofs.AnswerLaws.{count_taken, either, refused_not_converted, destination_taken, span_taken, pixels_after_lem}
 
 pub elements_taken : (n : ℕ) → elements_refused n ≡ false → (n % 3 ≡ 0) × (n ≤ 24576)
-unfolding elements_refused
-elements_taken n e =
-    let t = neither (not (eqb (n % 3) 0)) (ltb 24576 n) e in
-    (eqb-true (n % 3) 0 (not-false (eqb (n % 3) 0) t.0), ltb-false 24576 n t.1)
+elements_taken = count_taken 3
 
 -- further tests leave a refusal
-pub refused_then : (a further : RowAnswer) {number place : ℕ} → a ≡ Refused number place → a ≡ and_then a further
-refused_then a further e = e ∙ sym (ap (λ (x : RowAnswer). and_then x further) e)
+pub refused_then : (a further : Result (Unit {0}) Refusal) {refusal : Refusal} → a ≡ Err refusal → a ≡ and_then a further
+refused_then a further e = e ∙ sym (ap (λ (x : Result (Unit {0}) Refusal). and_then x further) e)
 
 -- what has been tested where the tests pass
 pub record AcceptedElements (n bytes first end : ℕ) : Type 0 where
@@ -30,10 +26,11 @@ pub record AcceptedElements (n bytes first end : ℕ) : Type 0 where
   pub ordered : first ≤ end
   pub within : 3 * end ≤ n
 
-module _ (number n bytes first end : ℕ) where
+module _ (refusal : Refusal) (n bytes first end : ℕ) where
   -- what holds of each refusal, and of an answer that passed the tests, holds of the answer
-  by_tests : (P : RowAnswer → Type 0) → P (Refused number 0) → P (Refused 7 0) → P (Refused 8 0) → (AcceptedElements n bytes first end → P Converted)
-      → P (elements_answer number n bytes first end)
+  by_tests : (P : Result (Unit {0}) Refusal → Type 0) → P (Err refusal) → P (Err DestinationLength) → P (Err Span)
+      → (AcceptedElements n bytes first end → P (Ok tt))
+      → P (elements_answer refusal n bytes first end)
   unfolding elements_answer
   by_tests P of_elements of_destination of_span passed =
       either P (elements_refused n) _ _ (λ _. of_elements) (λ a.
@@ -47,26 +44,27 @@ module _ (number n bytes first end : ℕ) where
         within = omega arith;
       }))))
 
-  pub accepted : elements_answer number n bytes first end ≡ Converted → AcceptedElements n bytes first end
+  pub accepted : elements_answer refusal n bytes first end ≡ Ok tt → AcceptedElements n bytes first end
   accepted =
-      by_tests (λ a. a ≡ Converted → AcceptedElements n bytes first end)
+      by_tests (λ a. a ≡ Ok tt → AcceptedElements n bytes first end)
       refused_not_converted refused_not_converted refused_not_converted (λ k e. k)
 
   -- the number for a host fits
-  pub number_fits : number ≤ 6291456 → host_number (elements_answer number n bytes first end) ≤ 6291456
-  number_fits h = by_tests (λ a. host_number a ≤ 6291456) (omega arith) (omega arith) (omega arith) (λ k. omega arith)
+  pub number_fits : host_number (Err refusal) ≤ 6291456 → host_number (elements_answer refusal n bytes first end) ≤ 6291456
+  number_fits h = by_tests (λ a. host_number a ≤ 6291456) h (omega arith) (omega arith) (λ k. omega arith)
 
   -- where further tests follow: what a converted span has passed, and that the number fits if theirs does
-  pub accepted_then : (further : RowAnswer) → and_then (elements_answer number n bytes first end) further ≡ Converted
-      → AcceptedElements n bytes first end × (further ≡ Converted)
+  pub accepted_then : (further : Result (Unit {0}) Refusal) → and_then (elements_answer refusal n bytes first end) further ≡ Ok tt
+      → AcceptedElements n bytes first end × (further ≡ Ok tt)
   accepted_then further =
-      by_tests (λ a. and_then a further ≡ Converted → AcceptedElements n bytes first end × (further ≡ Converted))
+      by_tests (λ a. and_then a further ≡ Ok tt → AcceptedElements n bytes first end × (further ≡ Ok tt))
       refused_not_converted refused_not_converted refused_not_converted (λ k e. (k, e))
 
-  pub number_fits_then : (further : RowAnswer) → number ≤ 6291456 → (AcceptedElements n bytes first end → host_number further ≤ 6291456)
-      → host_number (and_then (elements_answer number n bytes first end) further) ≤ 6291456
+  pub number_fits_then : (further : Result (Unit {0}) Refusal) → host_number (Err refusal) ≤ 6291456
+      → (AcceptedElements n bytes first end → host_number further ≤ 6291456)
+      → host_number (and_then (elements_answer refusal n bytes first end) further) ≤ 6291456
   number_fits_then further h fits =
-      by_tests (λ a. host_number (and_then a further) ≤ 6291456) (omega arith) (omega arith) (omega arith) fits
+      by_tests (λ a. host_number (and_then a further) ≤ 6291456) h (omega arith) (omega arith) fits
 
 -- ---- parts of a row: b elements from its start, k elements long
 pub element_of_part : {A : Type 0} (none : A) (row : List A) (b k i m : ℕ) → b + i ≡ m → i < k → get_or (take k (drop b row)) i none ≡ get_or row m none
@@ -89,7 +87,7 @@ module _ {A P : Type 0} (three : A → A → A → P) (none : A) where
         (λ i l. ap f (pixel_of_part row b k i (j + i) (omega arith) (omega arith)))
 
     -- ---- the destination of a call that converts from the rest of a row
-    pub converted_after : (dst : List ℕ) (first end : ℕ) {a : RowAnswer} (ys : List ℕ) (to : ℕ) → a ≡ Converted
+    pub converted_after : (dst : List ℕ) (first end : ℕ) {a : Result (Unit {0}) Refusal} (ys : List ℕ) (to : ℕ) → a ≡ Ok tt
         → AcceptedElements (length row) (length dst) first end → to ≡ 6 * end
         → ys ≡ elements_into three none f (take (length row - 3 * first) (drop (3 * first) row)) (take (to - 6 * first) (drop (6 * first) dst))
         → take (6 * first) dst ++ (ys ++ drop (to - 6 * first) (drop (6 * first) dst)) ≡ pixels_after a (converted_elements three none f row) dst first end

@@ -1,3 +1,4 @@
+pub mod ChunkLaws
 pub mod RowLaws
 pub mod SpanLaws
 pub mod AnswerLaws

@@ -1,11 +1,11 @@
 -- Rows whose samples each come from one element of a list, three to a pixel, whatever the elements are (bytes in request 13): the pixels of such a row, its
 -- destination of two bytes to an element, and the tests of a span that look at no element. Elements and pixels are counted from 0 at the row's start.
-use Rattle.std.specs.Prelude.{ℕ, ◌+◌, ◌*◌, ◌/◌, ◌%◌, min, Bool, cond, not, ◌||◌, List, length, ◌==◌, nat_lt, slice_index_or}
+use Rattle.std.specs.Prelude.{ℕ, ◌+◌, ◌*◌, ◌/◌, min, Bool, cond, List, length, slice_index_or, Result, Ok, Err}
 use Rattle.quantity.specs.Component.{Pixel}
-use Rattle.rows.specs.declared.RowAnswer.{RowAnswer}
-use Rattle.rows.specs.declared.RowAnswer.TheVariants.{Converted, Refused}
+use Rattle.refusal.specs.declared.Refusal.{Refusal}
+use Rattle.refusal.specs.declared.Refusal.TheVariants.{DestinationLength, Span}
 use Rattle.rows.specs.Row.{with_pixels}
-use Rattle.rows.specs.Answer.{destination_refused, span_refused}
+use Rattle.rows.specs.Answer.{count_refused, destination_refused, span_refused}
 
 -- `three` makes a pixel of red, green and blue; `none` stands for an element past the row's end
 module _ {A P : Type 0} (three : A → A → A → P) (none : A) where
@@ -21,19 +21,19 @@ module _ {A P : Type 0} (three : A → A → A → P) (none : A) where
   abbrev pub elements_into : (P → Pixel) → List A → List ℕ → List ℕ
   elements_into f src dst = with_pixels (converted_elements f src) dst 0 (min (2 * length src) (length dst) / 6)
 
--- so many elements are no multiple of 3, or more than 8,192 pixels have
-unfoldable pub elements_refused : ℕ → Bool
-elements_refused n = not (n % 3 == 0) || nat_lt 24576 n
+-- so many elements, three to a pixel, are refused
+abbrev pub elements_refused : ℕ → Bool
+elements_refused = count_refused 3
 
--- the tests in order, for the pixels first to end − 1 of a row of n elements and a destination of so many bytes: that of the elements, which has a number in
--- each call, 7, which wants two bytes to an element, and 8. The place is 0
-unfoldable pub elements_answer : ℕ → ℕ → ℕ → ℕ → ℕ → RowAnswer
-elements_answer number n bytes first end =
-    cond (elements_refused n) (Refused number 0)
-    (cond (destination_refused bytes (2 * n)) (Refused 7 0)
-    (cond (span_refused (n / 3) first end) (Refused 8 0) Converted))
+-- the tests in order, for the pixels first to end − 1 of a row of n elements and a destination of so many bytes: that of the elements, which has a refusal
+-- of its own in each call, 7, which wants two bytes to an element, and 8. The place is 0
+unfoldable pub elements_answer : Refusal → ℕ → ℕ → ℕ → ℕ → Result (Unit {0}) Refusal
+elements_answer refusal n bytes first end =
+    cond (elements_refused n) (Err refusal)
+    (cond (destination_refused bytes (2 * n)) (Err DestinationLength)
+    (cond (span_refused (n / 3) first end) (Err Span) (Ok tt)))
 
 -- what is answered where further tests follow
-abbrev pub and_then : RowAnswer → RowAnswer → RowAnswer
-and_then Converted further = further
-and_then (Refused number place) further = Refused number place
+abbrev pub and_then : Result (Unit {0}) Refusal → Result (Unit {0}) Refusal → Result (Unit {0}) Refusal
+and_then (Ok done) further = further
+and_then (Err refusal) further = Err refusal

@@ -1,6 +1,7 @@
 -- Rows (scope, Cards, rows, program): pixels of three 16-bit samples, and the bytes of a destination whose span was converted, whatever gives its pixels:
 -- any conversion of a row's pixels does. Rows and destinations are lists of bytes; samples and pixels are counted from 0 at the row's start.
 use Rattle.std.specs.Prelude.{ℕ, zero, suc, ◌+◌, ◌-◌, ◌*◌, ◌/◌, min, List, [], ◌++◌, length, take, drop}
+use Rattle.quantity.specs.declared.Rgb.{Rgb}
 use Rattle.quantity.specs.Component.{red, green, blue, Pixel, pixel}
 use Rattle.big_endian.specs.BigEndian.{number_at, bytes_of}
 
@@ -11,6 +12,10 @@ sample_at row i = number_at row (2 * i)
 -- pixel j of a row: three samples, red, green, blue
 abbrev pub pixel_at : List ℕ → ℕ → Pixel
 pixel_at row j = pixel (sample_at row (3 * j)) (sample_at row (3 * j + 1)) (sample_at row (3 * j + 2))
+
+-- a pixel's numbers as the code holds them
+abbrev pub rgb : Pixel → Rgb ℕ
+rgb p = record { red = p red; green = p green; blue = p blue }
 
 -- the six bytes of a pixel of codes
 unfoldable pub pixel_bytes : Pixel → List ℕ

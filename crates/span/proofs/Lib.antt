@@ -1,3 +1,5 @@
-pub mod CodesLaws
-pub mod BlockLaws
 pub mod LinearLaws
+pub mod MappingLaws
+pub mod NearLaws
+pub mod BlockLaws
+pub mod RowLaws

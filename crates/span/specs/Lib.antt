@@ -1,3 +1,4 @@
 pub mod Span
 pub mod Block
 pub mod Linear
+pub mod Dark

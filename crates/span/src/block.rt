@@ -1,351 +1,114 @@
 // A block of up to 32 pixels of a span, in three passes: mapped components, roots of their luminances, codes and what is delivered of them. Within a pass
 // no pixel waits for another, so a processor works on several at once. A pixel that equals the one before it takes over what that was given: flat areas
 // are mostly such pixels.
-ghost use Rattle.std.specs.Prelude.{◌≡◌, ℕ, ◌+◌, ◌*◌, ◌<◌, ◌≤◌, length};
-ghost use Rattle.quantity.specs.Units.{units, thousand};
-ghost use Rattle.quantity.specs.SampleFormat.{black};
-ghost use Rattle.quantity.specs.Component.{red, green, blue, pixel};
-ghost use Rattle.pq.specs.LightTable.{light_table};
-ghost use Rattle.position.specs.Position.{position_of};
-ghost use Rattle.hlg_steps.specs.StepTable.{step_table};
-ghost use Rattle.hlg.specs.Code.{luminance};
-ghost use Rattle.hlg.specs.Root.{IsRoot};
-ghost use Rattle.pixel.specs.Conversion.{mapped};
-ghost use Rattle.rows.specs.Row.{sample_at, pixels_bytes};
-ghost use Rattle.span.specs.Block.{HasMapped, words_at, stored_at, MappedTo, mapped_row, Within, RootsTo, HasSamples, block_bytes};
-ghost use Rattle.span.specs.Linear.{IsCurve, mapped_pixel, delivered_pixel, HasPixels};
+ghost use Rattle.std.specs.Prelude.{◌≡◌, ℕ, ◌+◌, ◌-◌, ◌*◌, ◌/◌, ◌^◌, ◌<◌, ◌≤◌, min, length};
+ghost use Rattle.quantity.specs.Units.{ten_thousand};
+ghost use Rattle.quantity.specs.Component.{Component, components};
+ghost use Rattle.rows.specs.Row.{pixels_bytes, with_pixels};
+ghost use Rattle.span.specs.Block.{IsShown, HasRoot, MappedTo, AllShown, RootsTo, samples_of, samples_at, row_samples};
 
-use crate::Samples;
-use crate::curve::Curve;
-use crate::delivery::{samples_in, write_samples};
-use crate::linear::map_linear_pixels;
-use crate::mapping::{Mapped, mapped_lights};
-use crate::near::near_codes;
-use crate::root::{lower_root, weigh};
-use hlg::Codes;
-use quantity::sample_format::{SampleFormat, black_code};
-use quantity::{Position, Source};
-use rows::sample_at;
+use crate::delivery::{coded_samples, write_samples};
+use crate::root::{found_root, stored_root, weigh};
+use crate::row::Row;
+use quantity::Rgb;
+use quantity::kept::Kept;
+use std::ops::Range;
 use ycbcr::SignalFormat;
 
-// The pixels that fill dst, at most a block of them, converted from those of a row of codes, or of floats, from pixel j on.
-pub(crate) fn convert_block(
-    lights: &[u64; 3505],
-    steps: &[u64; 955],
-    hints: &[u64; 1361],
-    cells: &[u64; 224],
-    curve: Curve,
-    source: Source,
-    format: SignalFormat,
-    linear: bool,
-    src: &[u8],
-    values: &[f32],
-    j: usize,
-    dst: &mut [u8],
-    pixels: usize,
-)
-    requires { (lights.now ≡ light_table) × (steps.now ≡ step_table) × IsCurve curve.peak curve.position curve.knee
-        × (curve.peak ≡ source.peak) × HasPixels linear (length src.now) (length values.now) (j + pixels) × (pixels ≤ 32)
-        × (length dst.old ≡ 6 * pixels) }
-    ensures { dst.new ≡ pixels_bytes (delivered_pixel linear format source src.now values.now) j pixels }
-{
-    let mut mapped = [0u64; 96];
-    map_block(
-        lights,
-        hints,
-        cells,
-        curve,
-        source,
-        linear,
-        src,
-        values,
-        j,
-        &mut mapped,
-        pixels,
-    );
-    code_block(steps, hints, format, &mapped, dst, pixels);
-}
+// The pixels of a block.
+const BLOCK: usize = 32;
 
-// The first pass over the pixels of a row from pixel j on.
-fn map_block(
-    lights: &[u64; 3505],
-    hints: &[u64; 1361],
-    cells: &[u64; 224],
-    curve: Curve,
-    source: Source,
-    linear: bool,
-    src: &[u8],
-    values: &[f32],
-    j: usize,
-    words: &mut [u64; 96],
-    pixels: usize,
-)
-    requires { (lights.now ≡ light_table) × IsCurve curve.peak curve.position curve.knee × (curve.peak ≡ source.peak)
-        × HasPixels linear (length src.now) (length values.now) (j + pixels) × (pixels ≤ 32) × (length words.old ≡ 96) }
-    ensures { MappedTo (λ (k : ℕ). mapped_pixel linear source src.now values.now (j + k)) words.new pixels }
+// No light; as numbers of a row, black, which is mapped to it.
+pub(crate) const DARK: Rgb<u64> = Rgb {
+    red: 0,
+    green: 0,
+    blue: 0,
+};
+
+// The pixels that fill dst, converted from the first ones of a row: as many whole ones as both have. Other bytes of dst remain.
+pub(crate) fn convert_pixels<R: Row>(row: &R, format: SignalFormat, dst: &mut [u8])
+    ensures { dst.new ≡ with_pixels (row_samples format (R.mapping row.now) (R.given row.now)) dst.old 0 (min (R.pixels row.now) (length dst.old / 6)) }
 {
-    if linear {
-        let value = 3 * j;
-        let next = value + 3 * pixels;
-        map_linear_pixels(lights, cells, curve, &values[value..next], words, pixels);
-        return;
+    let pixels = row.count().min(dst.len() / 6);
+    for first in (0..pixels).step_by(BLOCK) {
+        let end = pixels.min(first + BLOCK);
+        convert_block(row, first..end, format, &mut dst[6 * first..6 * end]);
     }
-    let from = 6 * j;
-    let to = from + 6 * pixels;
-    let w = Position(curve.position);
-    map_pixels(lights, hints, w, source, &src[from..to], words, pixels);
 }
 
-// The passes after the first: the bytes of what is delivered of mapped pixels.
-fn code_block(
-    steps: &[u64; 955],
-    hints: &[u64; 1361],
-    format: SignalFormat,
-    words: &[u64; 96],
-    dst: &mut [u8],
-    pixels: usize,
-)
-    requires { (steps.now ≡ step_table) × (pixels ≤ 32) × Within words.now pixels × (length dst.old ≡ 6 * pixels) }
-    ensures { dst.new ≡ block_bytes format words.now pixels }
+// The pixels of a block of a row.
+fn convert_block<R: Row>(row: &R, pixels: Range<usize>, format: SignalFormat, dst: &mut [u8])
+    requires { (pixels.start ≤ pixels.end) × (pixels.end ≤ pixels.start + 32) × (pixels.end ≤ R.pixels row.now)
+        × (length dst.old ≡ 6 * (pixels.end - pixels.start)) }
+    ensures { dst.new ≡ pixels_bytes (row_samples format (R.mapping row.now) (R.given row.now)) pixels.start (pixels.end - pixels.start) }
 {
-    let mut roots = [0u64; 32];
-    find_roots(hints, words, &mut roots, pixels);
-    code_pixels(steps, hints, format, words, &roots, dst, pixels);
+    let count = pixels.end - pixels.start;
+    let mut mapped = [DARK; BLOCK];
+    map_pixels(row, pixels.start, &mut mapped[..count]);
+    let mut roots = [0; BLOCK];
+    find_roots(&mapped[..count], &mut roots[..count]);
+    code_pixels(&mapped[..count], &roots[..count], format, dst);
 }
 
-// A pixel's samples and its mapped components.
-#[derive(Clone, Copy)]
-struct MappedPixel {
-    red: u64,
-    green: u64,
-    blue: u64,
-    mapped: Mapped,
-}
-
-// Black, which is mapped to no light under every peak.
-fn mapped_black(format: SampleFormat) -> MappedPixel
-    ensures { (result.red ≡ black format) × (result.green ≡ black format) × (result.blue ≡ black format) × (result.mapped.red ≡ 0) × (result.mapped.green ≡ 0)
-        × (result.mapped.blue ≡ 0) }
+// The first pass: the mapped components of the pixels of a row from the first on.
+fn map_pixels<R: Row>(row: &R, first: usize, mapped: &mut [Rgb<u64>])
+    requires { (first + length mapped.old ≤ R.pixels row.now) × (first + length mapped.old < 2 ^ 64) }
+    ensures { MappedTo (λ (k : ℕ). R.mapping row.now (R.given row.now (first + k))) mapped.new }
 {
-    let code = black_code(format);
-    let dark = Mapped {
-        red: 0,
-        green: 0,
-        blue: 0,
+    let mut last = Kept {
+        pixel: DARK,
+        found: DARK,
     };
-    MappedPixel {
-        red: code,
-        green: code,
-        blue: code,
-        mapped: dark,
+    for (k, found) in mapped.iter_mut().enumerate() {
+        last = last.next(
+            row.at(first + k),
+            |p|
+                requires { (i : Component) → components p i ≤ ten_thousand }
+                ensures { components result ≡ R.mapping row.entry.now (components p) }
+            { row.map(p) },
+        );
+        *found = last.found;
     }
 }
 
-// The pixel of six bytes, mapped; as the last where it equals that.
-fn map_next(
-    lights: &[u64; 3505],
-    hints: &[u64; 1361],
-    w: Position,
-    source: Source,
-    last: MappedPixel,
-    src: &[u8],
-) -> MappedPixel
-    requires { (lights.now ≡ light_table) × (w.0 ≡ position_of (source.peak * units)) × (length src.now ≡ 6)
-        × HasMapped (mapped source (pixel last.red last.green last.blue)) last.mapped.red last.mapped.green last.mapped.blue }
-    ensures { (result.red ≡ sample_at src.now 0) × (result.green ≡ sample_at src.now 1) × (result.blue ≡ sample_at src.now 2)
-        × HasMapped (mapped source (pixel result.red result.green result.blue)) result.mapped.red result.mapped.green result.mapped.blue }
+// The second pass: a root of the luminance of each pixel, or 0 where none is found; as the last where its luminance equals that. With options in the
+// block a row of random pixels takes 2 % more instructions.
+fn find_roots(mapped: &[Rgb<u64>], roots: &mut [u64])
+    requires { AllShown mapped.now × (length roots.old ≡ length mapped.now) }
+    ensures { RootsTo mapped.now roots.new }
 {
-    let r = sample_at(src, 0);
-    let g = sample_at(src, 1);
-    let b = sample_at(src, 2);
-    if r == last.red {
-        if g == last.green {
-            if b == last.blue {
-                return last;
-            }
+    let mut luminance = 0;
+    let mut found = 0;
+    for (k, root) in roots.iter_mut().enumerate() {
+        let next = weigh(mapped[k]);
+        if next != luminance {
+            luminance = next;
+            found = stored_root(next);
         }
-    }
-    let mapped = mapped_lights(lights, hints, w, source, r, g, b);
-    MappedPixel {
-        red: r,
-        green: g,
-        blue: b,
-        mapped: mapped,
-    }
-}
-
-// The first pass: the mapped components of the first pixels of src, three words to a pixel.
-fn map_pixels(
-    lights: &[u64; 3505],
-    hints: &[u64; 1361],
-    w: Position,
-    source: Source,
-    src: &[u8],
-    words: &mut [u64; 96],
-    pixels: usize,
-)
-    requires { (lights.now ≡ light_table) × (w.0 ≡ position_of (source.peak * units)) × (pixels ≤ 32) × (6 * pixels ≤ length src.now)
-        × (length words.old ≡ 96) }
-    ensures { MappedTo (mapped_row source src.now) words.new pixels }
-{
-    let format = source.format;
-    let mut last = mapped_black(format);
-    let mut j = 0;
-    while j < pixels {
-        let from = 6 * j;
-        let to = from + 6;
-        last = map_next(lights, hints, w, source, last, &src[from..to]);
-        let m = last.mapped;
-        store_words(m, words, j);
-        j += 1;
-    }
-}
-
-// The mapped components of pixel j, stored and read.
-pub(crate) fn store_words(m: Mapped, words: &mut [u64; 96], j: usize)
-    requires { j < 32 }
-    ensures { words.new ≡ stored_at words.old j m.red m.green m.blue }
-{
-    let at = 3 * j;
-    words[at] = m.red;
-    words[at + 1] = m.green;
-    words[at + 2] = m.blue;
-}
-
-fn words_of(words: &[u64; 96], j: usize) -> Mapped
-    requires { j < 32 }
-    ensures { (result.red ≡ words_at words.now j red) × (result.green ≡ words_at words.now j green)
-        × (result.blue ≡ words_at words.now j blue) }
-{
-    let at = 3 * j;
-    Mapped {
-        red: words[at],
-        green: words[at + 1],
-        blue: words[at + 2],
-    }
-}
-
-// A luminance and its root, or 0.
-#[derive(Clone, Copy)]
-struct Rooted {
-    luminance: u64,
-    root: u64,
-}
-
-// The root of a luminance; as the last where it equals that.
-fn root_next(hints: &[u64; 1361], last: Rooted, y: u64) -> Rooted
-    requires { IsRoot last.root last.luminance }
-    ensures { (result.luminance ≡ y) × IsRoot result.root y }
-{
-    if y == last.luminance {
-        return last;
-    }
-    Rooted {
-        luminance: y,
-        root: lower_root(hints, y),
-    }
-}
-
-// The second pass: a root of each pixel's luminance.
-fn find_roots(hints: &[u64; 1361], words: &[u64; 96], roots: &mut [u64; 32], pixels: usize)
-    requires { (pixels ≤ 32) × Within words.now pixels × (length roots.old ≡ 32) }
-    ensures { RootsTo words.now roots.new pixels }
-{
-    let mut last = Rooted {
-        luminance: 0,
-        root: 0,
-    };
-    let mut j = 0;
-    while j < pixels {
-        let m = words_of(words, j);
-        let y = weigh(m.red, m.green, m.blue);
-        last = root_next(hints, last, y);
-        roots[j] = last.root;
-        j += 1;
-    }
-}
-
-// Three mapped components and the samples that are delivered of their codes.
-#[derive(Clone, Copy)]
-struct CodedPixel {
-    red: u64,
-    green: u64,
-    blue: u64,
-    samples: Samples,
-}
-
-// No light, and what is delivered of black.
-fn coded_black(format: SignalFormat) -> CodedPixel
-    ensures { HasSamples format result.red result.green result.blue result.samples.first result.samples.second result.samples.third }
-{
-    let codes = Codes {
-        red: 64,
-        green: 64,
-        blue: 64,
-    };
-    CodedPixel {
-        red: 0,
-        green: 0,
-        blue: 0,
-        samples: samples_in(format, codes),
-    }
-}
-
-// Three mapped components with their samples; as the last where they equal those.
-fn code_next(
-    steps: &[u64; 955],
-    hints: &[u64; 1361],
-    format: SignalFormat,
-    last: CodedPixel,
-    root: u64,
-    red: u64,
-    green: u64,
-    blue: u64,
-) -> CodedPixel
-    requires { (steps.now ≡ step_table) × (red ≤ thousand) × (green ≤ thousand) × (blue ≤ thousand) × IsRoot root (luminance red green blue)
-        × HasSamples format last.red last.green last.blue last.samples.first last.samples.second last.samples.third }
-    ensures { (result.red ≡ red) × (result.green ≡ green) × (result.blue ≡ blue)
-        × HasSamples format red green blue result.samples.first result.samples.second result.samples.third }
-{
-    if red == last.red {
-        if green == last.green {
-            if blue == last.blue {
-                return last;
-            }
-        }
-    }
-    let codes = near_codes(steps, hints, root, red, green, blue);
-    CodedPixel {
-        red: red,
-        green: green,
-        blue: blue,
-        samples: samples_in(format, codes),
+        *root = found;
     }
 }
 
 // The third pass: the bytes of what is delivered of each pixel's codes.
-fn code_pixels(
-    steps: &[u64; 955],
-    hints: &[u64; 1361],
-    format: SignalFormat,
-    words: &[u64; 96],
-    roots: &[u64; 32],
-    dst: &mut [u8],
-    pixels: usize,
-)
-    requires { (steps.now ≡ step_table) × (pixels ≤ 32) × Within words.now pixels × RootsTo words.now roots.now pixels
-        × (length dst.old ≡ 6 * pixels) }
-    ensures { dst.new ≡ block_bytes format words.now pixels }
+fn code_pixels(mapped: &[Rgb<u64>], roots: &[u64], format: SignalFormat, dst: &mut [u8])
+    requires { AllShown mapped.now × RootsTo mapped.now roots.now × (length roots.now ≡ length mapped.now)
+        × (length dst.old ≡ 6 * length mapped.now) }
+    ensures { dst.new ≡ pixels_bytes (samples_at format mapped.now) 0 (length mapped.now) }
 {
-    let mut last = coded_black(format);
-    let mut j = 0;
-    while j < pixels {
-        let from = 6 * j;
-        let to = from + 6;
-        let m = words_of(words, j);
-        last = code_next(steps, hints, format, last, roots[j], m.red, m.green, m.blue);
-        let samples = last.samples;
-        write_samples(samples, &mut dst[from..to]);
-        j += 1;
+    let mut last = Kept {
+        pixel: DARK,
+        found: coded_samples(format, None, DARK),
+    };
+    // dst by places: after chunks_exact_mut a proof knows none of the bytes written
+    for (k, pixel) in mapped.iter().enumerate() {
+        let root = found_root(roots[k]);
+        last = last.next(
+            *pixel,
+            |m|
+                requires { IsShown m × HasRoot root m }
+                ensures { components result ≡ samples_of format (components m) }
+            { coded_samples(format, root, m) },
+        );
+        write_samples(last.found, &mut dst[6 * k..6 * k + 6]);
     }
 }

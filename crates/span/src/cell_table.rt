@@ -1,6 +1,6 @@
 // Made by `python3 tools/hints.py cells`. Hints: a test confirms each one's use, so nothing rests on these values. Entries from 32 on are lines of
 // cells of the light table, 32 to each octave of lights from 256 cd/m2 on.
-pub const CELLS: [u64; 224] = [
+pub static CELLS: [u64; 224] = [
     0,
     0,
     0,

@@ -1,28 +1,44 @@
 // What is delivered of a pixel's HLG codes in a signal format, and the bytes of it.
 ghost use Rattle.std.specs.Prelude.{◌≡◌, ◌≤◌, length};
-ghost use Rattle.quantity.specs.Component.{red, green, blue, pixel};
+ghost use Rattle.quantity.specs.Component.{Component, components};
 ghost use Rattle.rows.specs.Row.{pixel_bytes};
-ghost use Rattle.ycbcr.specs.YCbCr.{luma, cb, cr};
+ghost use Rattle.ycbcr.specs.YCbCr.{ycbcr};
 ghost use Rattle.ycbcr.specs.Delivery.{in_format};
+ghost use Rattle.span.specs.Block.{IsShown, HasRoot, AreCodes, samples_of};
 
-use crate::Samples;
-use hlg::Codes;
+use crate::near::near_codes;
+use quantity::Rgb;
 use ycbcr::SignalFormat;
 
-// The samples of HLG codes in a format.
-pub(crate) fn samples_in(format: SignalFormat, codes: Codes) -> Samples
-    requires { (64 ≤ codes.red) × (codes.red ≤ 1019) × (64 ≤ codes.green) × (codes.green ≤ 1019) × (64 ≤ codes.blue) × (codes.blue ≤ 1019) }
-    ensures { (result.first ≡ in_format format (pixel codes.red codes.green codes.blue) red)
-        × (result.second ≡ in_format format (pixel codes.red codes.green codes.blue) green)
-        × (result.third ≡ in_format format (pixel codes.red codes.green codes.blue) blue) }
+// The samples of what is delivered of mapped components, by the root of their luminance where one was found.
+pub(crate) fn coded_samples(format: SignalFormat, root: Option<u64>, m: Rgb<u64>) -> Rgb<u64>
+    requires { IsShown m × HasRoot root m }
+    ensures { components result ≡ samples_of format (components m) }
 {
-    if let SignalFormat::YCbCr = format {
-        return luma_and_chroma(codes.red, codes.green, codes.blue);
-    }
-    Samples {
-        first: codes.red,
-        second: codes.green,
-        third: codes.blue,
+    samples_in(format, near_codes(root, m))
+}
+
+// The six bytes of three samples, each high byte first. By `pixel_bytes` and `copy_from_slice` a row of random pixels takes 3 % more instructions.
+pub(crate) fn write_samples(samples: Rgb<u64>, dst: &mut [u8])
+    requires { (length dst.old ≡ 6) × (samples.red ≤ 1019) × (samples.green ≤ 1019) × (samples.blue ≤ 1019) }
+    ensures { dst.new ≡ pixel_bytes (components samples) }
+{
+    dst[0] = (samples.red / 256) as u8;
+    dst[1] = (samples.red % 256) as u8;
+    dst[2] = (samples.green / 256) as u8;
+    dst[3] = (samples.green % 256) as u8;
+    dst[4] = (samples.blue / 256) as u8;
+    dst[5] = (samples.blue % 256) as u8;
+}
+
+// The samples of HLG codes in a format.
+fn samples_in(format: SignalFormat, codes: Rgb<u64>) -> Rgb<u64>
+    requires { AreCodes codes }
+    ensures { components result ≡ in_format format (components codes) }
+{
+    match format {
+        SignalFormat::Rgb => codes,
+        SignalFormat::YCbCr => luma_and_chroma(codes),
     }
 }
 
@@ -44,34 +60,21 @@ const CR_PARTS: u32 = 1614687;
 
 const CR_MIDDLE: u32 = 827527087;
 
-// Luma, Cb and Cr of HLG codes, each to the nearest by adding a half and rounding down. 896 (B' - Y') / 1.8814 is 112 (10,000 B - the weighted sum) /
-// 2,060,133, and Cr alike, so that 112 times the sum serves all three. The weights add up to 10,000: black's 64 comes out as 64 of luma and drops
-// out of a chroma, and codes need not be taken less 64. The denominators are odd: no chroma lies on a half. All fits 32 bits, in which a division by a
-// constant is one product.
-pub(crate) fn luma_and_chroma(red: u64, green: u64, blue: u64) -> Samples
-    requires { (64 ≤ red) × (red ≤ 1019) × (64 ≤ green) × (green ≤ 1019) × (64 ≤ blue) × (blue ≤ 1019) }
-    ensures { (result.first ≡ luma (pixel red green blue)) × (result.second ≡ cb (pixel red green blue)) × (result.third ≡ cr (pixel red green blue)) }
+// Luma, Cb and Cr of HLG codes, each to the nearest by adding a half and rounding down, in the places of red, green and blue as in a row.
+// 896 (B' - Y') / 1.8814 is 112 (10,000 B - the weighted sum) / 2,060,133, and Cr alike, so that 112 times the sum serves all three. The weights add up
+// to 10,000: black's 64 comes out as 64 of luma and drops out of a chroma, and codes need not be taken less 64. The denominators are odd: no chroma lies
+// on a half. All fits 32 bits, in which a division by a constant is one product.
+pub(crate) fn luma_and_chroma(codes: Rgb<u64>) -> Rgb<u64>
+    requires { AreCodes codes }
+    ensures { components result ≡ ycbcr (components codes) }
 {
-    let r = red as u32;
-    let g = green as u32;
-    let b = blue as u32;
+    let r = codes.red as u32;
+    let g = codes.green as u32;
+    let b = codes.blue as u32;
     let y = RED * r + GREEN * g + BLUE * b;
-    Samples {
-        first: ((y + WHOLE / 2) / WHOLE) as u64,
-        second: ((WHOLE * b + CB_MIDDLE - y) / CB_PARTS) as u64,
-        third: ((WHOLE * r + CR_MIDDLE - y) / CR_PARTS) as u64,
+    Rgb {
+        red: ((y + WHOLE / 2) / WHOLE) as u64,
+        green: ((WHOLE * b + CB_MIDDLE - y) / CB_PARTS) as u64,
+        blue: ((WHOLE * r + CR_MIDDLE - y) / CR_PARTS) as u64,
     }
-}
-
-// The six bytes of three samples, each high byte first.
-pub(crate) fn write_samples(samples: Samples, dst: &mut [u8])
-    requires { (length dst.old ≡ 6) × (samples.first ≤ 1019) × (samples.second ≤ 1019) × (samples.third ≤ 1019) }
-    ensures { dst.new ≡ pixel_bytes (pixel samples.first samples.second samples.third) }
-{
-    dst[0] = (samples.first / 256) as u8;
-    dst[1] = (samples.first % 256) as u8;
-    dst[2] = (samples.second / 256) as u8;
-    dst[3] = (samples.second % 256) as u8;
-    dst[4] = (samples.third / 256) as u8;
-    dst[5] = (samples.third % 256) as u8;
 }

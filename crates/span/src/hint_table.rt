@@ -1,6 +1,6 @@
 // Made by `python3 tools/hints.py source`. Hints: a test confirms each one's use, so nothing rests on these values. Entries 32 to 831 are lines of
 // codes, 832 to 1,029 roots of luminances, 1,030 to 1,360 reciprocals of lights.
-pub const HINTS: [u64; 1361] = [
+pub static HINTS: [u64; 1361] = [
     0,
     0,
     0,

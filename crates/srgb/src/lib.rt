@@ -15,13 +15,12 @@ pub struct LinearLight(pub u64);
 pub fn light_of_value(v: u8) -> LinearLight
     ensures { (result.0 ≡ linear_light v) × IsLinearLight v result.0 }
 {
-    let table = light_table();
-    LinearLight(table[v as usize])
+    LinearLight(light_table()[v as usize])
 }
 
-// The table. Each mention of the constant fills an array, so it is mentioned here alone: take it once and lend it.
-pub fn light_table() -> [u64; 256]
-    ensures { result ≡ linear_table }
+// The table.
+pub fn light_table() -> &'static [u64; 256]
+    ensures { result.now ≡ linear_table }
 {
-    lights::TABLE
+    &lights::TABLE
 }

@@ -1,6 +1,6 @@
 // Made by `python3 tools/srgb_lights.py source`. Entry v is the linear light of the sRGB value v, rounded down, in 1/2^40 of white's.
 // 256 entries from 0 to 1,099,511,627,776, rising.
-pub const TABLE: [u64; 256] = [
+pub static TABLE: [u64; 256] = [
     0,
     5582277,
     25649412,

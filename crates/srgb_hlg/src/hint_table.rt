@@ -1,6 +1,6 @@
 // Made by `python3 tools/srgb_hints.py source`, which says how they are laid out. Guesses of the steps that a scene light reaches, by its leading
 // bits; a test confirms each one's use, so nothing rests on these values.
-pub const HINTS: [u16; 1298] = [
+pub static HINTS: [u16; 1298] = [
     63, 63, 63, 63, 63, 63, 63, 63, 63, 63, 63, 63, 63, 63, 63, 63, 63, 63, 63, 63, 63, 63, 63, 63,
     63, 30, 29, 28, 27, 27, 27, 26, 26, 25, 25, 24, 24, 23, 23, 23, 22, 22, 21, 20, 19, 18, 17, 16,
     63, 63, 63, 63, 63, 63, 63, 63, 63, 63, 63, 63, 63, 63, 63, 63, 63, 130, 130, 130, 130, 130,

@@ -13,46 +13,32 @@ ghost use Rattle.rows.specs.Answer.{host_number};
 ghost use Rattle.srgb_hlg.specs.Codes.{HasCodes};
 ghost use Rattle.srgb_hlg.specs.Row.{row_answer, destination_after};
 
-use hints::hint_table;
-use hlg::Codes;
-use hlg_steps::step_table;
+use quantity::Rgb;
+use refusal::Refusal;
 use rows::elements::test_elements;
-use rows::{RowAnswer, host_number};
+use rows::host_number;
 use span::{codes_of, convert_span};
-use srgb::light_table;
 
-// The HLG codes of one pixel, for which alone the tables are filled. Every value is taken.
-pub fn convert_pixel(red: u8, green: u8, blue: u8) -> Codes
-    ensures { HasCodes red green blue result.red result.green result.blue }
+// The HLG codes of one pixel. Every value is taken.
+pub fn convert_pixel(p: Rgb<u8>) -> Rgb<u64>
+    ensures { HasCodes p.red p.green p.blue result.red result.green result.blue }
 {
-    let lights = light_table();
-    let steps = step_table();
-    let hints = hint_table();
-    codes_of(
-        &lights,
-        &steps,
-        &hints,
-        red as u64,
-        green as u64,
-        blue as u64,
-    )
+    codes_of(Rgb {
+        red: u64::from(p.red),
+        green: u64::from(p.green),
+        blue: u64::from(p.blue),
+    })
 }
 
 // The pixels first to end - 1 of a row of bytes, three to a pixel, converted into the same places of a destination of two bytes to each, whose other bytes
-// remain. Refuses 18, 7, 8 and then leaves every byte.
-pub fn convert_row(row: &[u8], dst: &mut [u8], first: usize, end: usize) -> RowAnswer
+// remain. Refuses 18, 7, 8 and then leaves every byte. First and end stand apart, as the call for a host in C has them.
+pub fn convert_row(row: &[u8], dst: &mut [u8], first: usize, end: usize) -> Result<(), Refusal>
     ensures { (result ≡ row_answer row.now (length dst.old) first end)
         × (dst.new ≡ destination_after row.now dst.old first end) }
 {
-    let answer = test_elements(18, row.len(), dst.len(), first, end);
-    if let RowAnswer::Refused(_, _) = answer {
-        return answer;
-    }
-    let at = 3 * first;
-    let from = 6 * first;
-    let to = 6 * end;
-    convert_span(&row[at..], &mut dst[from..to]);
-    RowAnswer::Converted
+    test_elements(Refusal::ElementCount, row.len(), dst.len(), first..end)?;
+    convert_span(&row[3 * first..], &mut dst[6 * first..6 * end]);
+    Ok(())
 }
 
 // What the row call for a host in C answers: 0, or the refusal; its place is always 0. `srgb_hlg_c` exports it under this name.

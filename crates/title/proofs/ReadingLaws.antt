@@ -9,9 +9,9 @@ use lib.Dec.{eqb, ltb}
 use lib.ListN.{length, take, drop, length-append, length-take, length-drop, take-append-drop, drop_of_length-le}
 use lib.Seq.{take_all}
 use borrow.Author.Tests.{eqb-true, eqb-false, ltb-true, ltb-false}
-use Rattle.quantity.specs.declared.Source.{Source}
+use Rattle.title.specs.declared.opening.Layout.{Layout}
 use Rattle.metadata.proofs.CardLaws.{after_card}
-use Rattle.title.specs.declared.opening.Opening.TheVariants as opening
+use Rattle.std.specs.Prelude.{Ok}
 use Rattle.title.specs.Opening.{opening_answer, rows_of, bytes_asked}
 use Rattle.title.proofs.OpeningLaws.{asked_within, has_rows, Tight, opening_settled, tight_on, rows_after, no_rows}
 
@@ -34,12 +34,12 @@ read_opening (suc turns) held rest =
 pub record Opened (title : List ℕ) (read : Input) : Type 0 where
   pub whole : read.held ++ read.rest ≡ title
   pub answer : opening_answer read.held ≡ opening_answer title
-  pub rows : (source : Source) (width : ℕ) → opening_answer title ≡ opening.Rows source width → rows_of title ≡ read.rest
+  pub rows : (layout : Layout) → opening_answer title ≡ Ok layout → rows_of title ≡ read.rest
 
 settled_at : (held rest : List ℕ) → Tight held → bytes_asked held ≡ 0 → Opened (held ++ rest) (record { held = held; rest = rest })
 settled_at held rest tight z =
     let same = opening_settled held rest z in
-    record { whole = refl; answer = sym same; rows = λ s w h. rows_after held rest tight z (has_rows held (sym same ∙ h)).0 }
+    record { whole = refl; answer = sym same; rows = λ layout h. rows_after held rest tight z (has_rows held (sym same ∙ h)).0 }
 
 ended_at : (held rest : List ℕ) → Tight held → length (take (bytes_asked held) rest) < bytes_asked held
     → Opened (held ++ rest) (record { held = held ++ take (bytes_asked held) rest; rest = drop (bytes_asked held) rest })
@@ -51,7 +51,7 @@ ended_at held rest tight h =
     record {
       whole = rw append_assoc (ap (λ (l : List ℕ). held ++ l) (take-append-drop (bytes_asked held) rest));
       answer = rw all;
-      rows = λ s w e. no_rows (held ++ rest) tight' (has_rows (held ++ rest) e).0 ∙ sym none;
+      rows = λ layout e. no_rows (held ++ rest) tight' (has_rows (held ++ rest) e).0 ∙ sym none;
     }
 
 opened_in : (turns : ℕ) (held rest : List ℕ) → 7 ≤ length held + turns → length held ≤ 7 → Tight held → Opened (held ++ rest) (read_opening turns held rest)

@@ -6,19 +6,21 @@ use mathlib.Core.Path.{◌≡◌, ◌∙◌}
 use lib.ListN.{drop}
 use Rattle.metadata.specs.Card.{card_answer, following}
 use Rattle.metadata.specs.Rewriting.{rewritten}
-use Rattle.metadata.specs.declared.SourceAnswer.TheVariants as card
+use Rattle.std.specs.Prelude.{Result, Err}
+use Rattle.refusal.specs.declared.Refusal.{Refusal}
+use Rattle.refusal.specs.declared.Refusal.TheVariants.{NoPeak}
 use Rattle.metadata.proofs.NoPeakLaws.{former_answer, former_following, same_following}
 use Rattle.metadata.proofs.RewritingLaws.{answers_as_before, followed_alike}
-use Rattle.title.specs.declared.opening.Opening.{Opening}
+use Rattle.title.specs.declared.opening.Layout.{Layout}
 use Rattle.title.specs.Opening.{answer_after, opening_answer, rows_of}
 
-abbrev pub former_opening : List ℕ → Opening
+abbrev pub former_opening : List ℕ → Result Layout Refusal
 former_opening title = answer_after (former_answer title) (former_following title)
 
 abbrev pub former_rows : List ℕ → List ℕ
 former_rows title = drop 2 (former_following title)
 
-module _ (title : List ℕ) (unnamed : card_answer title ≡ card.Refused 17) where
+module _ (title : List ℕ) (unnamed : card_answer title ≡ Err NoPeak) where
   same_bytes : following (rewritten title) ≡ former_following title
   same_bytes = followed_alike title unnamed ∙ same_following title
 

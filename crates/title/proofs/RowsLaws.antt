@@ -6,25 +6,27 @@ use native.Mathlib.Decide.{dec_lt}
 use native.Mathlib.Omega.{arith}
 use lib.ListN.{length, take, drop, length-take}
 use borrow.Author.Tests.{eq-eqb, ne_eqb, lt-ltb, le-ltb}
-use Rattle.title.specs.declared.row_bytes.RowBytes.TheVariants.{Whole, Refused, End}
+use Rattle.title.specs.declared.row_bytes.RowBytes.TheVariants.{Whole, End}
+use Rattle.std.specs.Prelude.{Ok, Err}
+use Rattle.refusal.specs.declared.Refusal.TheVariants.{RowCut}
 use Rattle.title.specs.Rows.{row_bytes, title_rows}
 
 -- what came for a row, by its length
 module _ (width : ℕ) (row : List ℕ) where
-  pub at_end : length row ≡ 0 → row_bytes width row ≡ End
+  pub at_end : length row ≡ 0 → row_bytes width row ≡ Ok End
   unfolding row_bytes
   at_end h = simp (eq-eqb (length row) 0 h)
 
-  pub cut_short_lem : (length row ≡ 0 → ⊥) → length row < 6 * width → row_bytes width row ≡ Refused 11
+  pub cut_short_lem : (length row ≡ 0 → ⊥) → length row < 6 * width → row_bytes width row ≡ Err RowCut
   unfolding row_bytes
   cut_short_lem h l = simp (ne_eqb (length row) 0 h, lt-ltb (length row) (6 * width) l)
 
-  pub whole : (length row ≡ 0 → ⊥) → 6 * width ≤ length row → row_bytes width row ≡ Whole
+  pub whole : (length row ≡ 0 → ⊥) → 6 * width ≤ length row → row_bytes width row ≡ Ok Whole
   unfolding row_bytes
   whole h l = simp (ne_eqb (length row) 0 h, le-ltb (length row) (6 * width) l)
 
 -- a whole row has all its bytes
-pub whole_length : (width : ℕ) (bytes : List ℕ) → row_bytes width (take (6 * width) bytes) ≡ Whole → length (take (6 * width) bytes) ≡ 6 * width
+pub whole_length : (width : ℕ) (bytes : List ℕ) → row_bytes width (take (6 * width) bytes) ≡ Ok Whole → length (take (6 * width) bytes) ≡ 6 * width
 whole_length width bytes h = go (dec_lt (length row) (6 * width)) (dec_lt 0 (length row))
   where
     row : List ℕ

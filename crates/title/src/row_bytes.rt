@@ -2,25 +2,26 @@
 ghost use Rattle.std.specs.Prelude.{◌≡◌};
 ghost use Rattle.title.specs.Rows.{row_bytes};
 
-#[derive(Clone, Copy)]
+use refusal::Refusal;
+
+#[derive(Clone, Copy, PartialEq, Eq)]
 pub enum RowBytes {
     // all bytes of a row
     Whole,
-    // the number of the refusal
-    Refused(u64),
     // the title has no further row
     End,
 }
 
-// What the bytes that came for a row of so many pixels are.
-pub fn test_row_bytes(width: usize, row: &[u8]) -> RowBytes
+// What the bytes that came for a row of so many pixels are, or refusal 11.
+#[tactic(auto, unfolding(crate::specs::Rows::row_bytes))]
+pub fn test_row_bytes(width: usize, row: &[u8]) -> Result<RowBytes, Refusal>
     ensures { result ≡ row_bytes width row.now }
 {
-    if row.len() == 0 {
-        return RowBytes::End;
+    if row.is_empty() {
+        return Ok(RowBytes::End);
     }
     if row.len() / 6 < width {
-        return RowBytes::Refused(11);
+        return Err(Refusal::RowCut);
     }
-    RowBytes::Whole
+    Ok(RowBytes::Whole)
 }

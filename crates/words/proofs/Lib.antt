@@ -1,4 +1,4 @@
-pub mod HalvesLaws
 pub mod LeadingLaws
 pub mod NumberLaws
+pub mod ProductLaws
 pub mod QuotientLaws

@@ -6,5 +6,5 @@ ghost use Rattle.std.specs.Prelude.{◌*◌, ◌^◌, ◌<◌, ◌≤◌};
 pub fn leading_zeros(x: u64) -> u64
     ensures { (result ≤ 64) × (x * 2 ^ result < 2 ^ 64) × (result < 64 → 2 ^ 63 ≤ x * 2 ^ result) }
 {
-    u64::leading_zeros(x) as u64
+    u64::from(x.leading_zeros())
 }

@@ -1,4 +1,4 @@
-// Whole numbers of any size in 64-bit words, the lowest word first, without 128-bit integers.
+// Whole numbers of any size in 64-bit words, the lowest word first.
 #![tactic(auto)]
 
 pub mod leading;
@@ -10,5 +10,5 @@ pub mod quotient;
 pub use leading::leading_zeros;
 pub use multiple::{multiply, multiply_by_pair, multiply_by_power};
 pub use order::at_most;
-pub use product::{Product, multiply_add, upper_word};
+pub use product::{lower, multiply_add, upper, upper_word};
 pub use quotient::is_quotient;

@@ -11,9 +11,9 @@ pub returns-then-at-end : goal.returns-then-at-end
 unfolding units ten_thousand last_position
 returns-then-at-end c =
     let a = c.args in
-    let end = c.smaller-end.result in
-    let at = c.smaller-at.result in
-    c.smaller-then-at-end.ensures
+    let end = c.clamp-end.result in
+    let at = c.min-at.result in
+    c.min.ensures
     ∙ sym (below_knee (entry_in a.lights.now) a.w.0 (min a.m1.0 ten_thousand) (min a.m.0 last_position) end at
     (omega arith) (omega arith) (omega arith))
 
@@ -21,8 +21,8 @@ pub returns : goal.returns
 unfolding units ten_thousand last_position
 returns c =
     let a = c.args in
-    let end = c.smaller-end.result in
-    let at = c.smaller-at.result in
+    let end = c.clamp-end.result in
+    let at = c.min-at.result in
     c.light_in.ensures
     ∙ sym (from_knee (entry_in a.lights.now) a.w.0 (min a.m1.0 ten_thousand) (min a.m.0 last_position) end at _
     (omega arith) (omega arith) (omega arith) c.spline_position.ensures)

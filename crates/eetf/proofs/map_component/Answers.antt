@@ -1,9 +1,8 @@
--- `eetf::map_component` meets its contract: its three numbers are read at their ranges' ends, and where the brightest is 0 so is the quotient.
+-- `eetf::map_component` meets its contract: where the brightest is 0, so is the quotient.
 use mathlib.Core.Path.{◌≡◌, sym, ap, ◌∙◌}
 use Prim.Native.Nat.{ℕ, min, ◌*◌, ◌/◌}
 use native.Mathlib.Nat.{div-zero}
 use native.Mathlib.Omega.{arith}
-use borrow.Author.Rules.{rules}
 use Rattle.quantity.specs.Units.{units, thousand, ten_thousand}
 use Rattle.eetf.specs.Curve.{mapped_light}
 use Rattle.eetf.proofs.map_component.Goals as goal
@@ -17,11 +16,3 @@ unfolding units thousand ten_thousand
 returns-then-brightest-eq0 c =
     let a = c.args in
     dark a.c.0 (min a.m1.0 167772160000) (min a.m2.0 16777216000) (omega arith)
-
-pub scale-requires : goal.scale-requires
-unfolding units ten_thousand
-scale-requires c = search rules
-
-pub returns : goal.returns
-unfolding units thousand ten_thousand
-returns c = cc

@@ -18,10 +18,6 @@ pub overflow_mul-lower : goal.overflow_mul-lower
 unfolding units ten_thousand
 overflow_mul-lower c = omega (arith, product_le c.args.c (c.args.m2 % 131072) (omega arith) (omega arith))
 
-pub overflow_mul-result : goal.overflow_mul-result
-unfolding units ten_thousand
-overflow_mul-result c = omega (arith, ratio_le c.args.c c.args.m1 (c.args.m2 / 131072) (omega arith))
-
 pub overflow_mul-result-2 : goal.overflow_mul-result-2
 unfolding units ten_thousand
 overflow_mul-result-2 c = omega (arith, mod-lt (c.args.c * (c.args.m2 / 131072)) {m = c.args.m1} (omega arith))

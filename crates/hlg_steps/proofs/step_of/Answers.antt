@@ -9,5 +9,5 @@ use Rattle.hlg_steps.proofs.step_of.Goals as goal
 pub returns : goal.returns
 returns c =
     let d = c.args.d in
-    let same : c.step_in.result.0 ≡ step d = c.step_in.ensures ∙ step_read _ d c.step_table-table.ensures in
+    let same : c.step_in.result.0 ≡ step d = c.step_in.ensures ∙ step_read _ d c.step_table.ensures in
     (same, subst (IsStep (min (max d 65) 1019)) (sym same) (step_rule_clamped d))

@@ -9,5 +9,5 @@ use Rattle.inverse_oetf.proofs.scene_light_of.Goals as goal
 pub returns : goal.returns
 returns c =
     let d = c.args.d in
-    let same : c.scene_light_in.result.0 ≡ scene_light d = c.scene_light_in.ensures ∙ scene_read_lem _ d c.scene_table-table.ensures in
+    let same : c.scene_light_in.result.0 ≡ scene_light d = c.scene_light_in.ensures ∙ scene_read_lem _ d c.scene_table.ensures in
     (same, subst (IsSceneLight (min (max d 64) 1019)) (sym same) (scene_rule_clamped d))

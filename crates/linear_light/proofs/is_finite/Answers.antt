@@ -1,8 +1,15 @@
--- `linear_light::is_finite` meets its contract: a value less itself.
-use lib.Ieee.{of_bits}
-use Rattle.linear_light.proofs.FiniteLaws.{finite_by_difference}
+-- `linear_light::is_finite` meets its contract: the library's test is the definition's.
+use Rattle.std.proofs.Common.{◌≡◌, refl, ◌∙◌}
+use Rattle.std.specs.Float.{float_is_finite}
+use lib.Ieee.{Float, nan, inf, fin}
+use Rattle.linear_light.specs.LinearLight.{finite}
 use Rattle.linear_light.proofs.is_finite.Goals as goal
 
+same : (x : Float) → float_is_finite x ≡ finite x
+unfolding float_is_finite finite
+same nan = refl
+same (inf s) = refl
+same (fin s m e) = refl
+
 pub returns : goal.returns
-unfolding of_bits
-returns c = finite_by_difference c.args.x
+returns c = c.is_finite.ensures.value ∙ same c.args.x

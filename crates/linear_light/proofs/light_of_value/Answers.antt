@@ -7,8 +7,8 @@ use Rattle.linear_light.proofs.light_of_value.Goals as goal
 pub whole_light-requires : goal.whole_light-requires
 whole_light-requires c =
     let x = c.args.x in
-    rw (c.counted.ensures, c.class_of-class.ensures) (counted_within x)
+    rw (c.counted.ensures, c.of.ensures) (counted_within x)
 
 pub returns : goal.returns
 unfolding whole_light exact_light
-returns c = c.whole_light.ensures ∙ rw (c.counted.ensures, c.class_of-class.ensures)
+returns c = c.whole_light.ensures ∙ rw (c.counted.ensures, c.of.ensures)

@@ -9,5 +9,5 @@ use Rattle.pq.proofs.light_entry.Goals as goal
 pub returns : goal.returns
 returns c =
     let k = c.args.k in
-    let same : c.entry_in.result.0 ≡ light_entry k = c.entry_in.ensures ∙ entry_read _ k c.light_table-table.ensures in
+    let same : c.entry_in.result.0 ≡ light_entry k = c.entry_in.ensures ∙ entry_read _ k c.light_table.ensures in
     (same, subst (IsEntry (min k 3504)) (sym same) (entry_rule k))

@@ -1,12 +1,15 @@
-use Rattle.std.proofs.Common.{◌≡◌, ◌-◌, ◌*◌, ◌≤◌, ◌++◌, length, drop}
+use Rattle.std.proofs.Common.{◌≡◌, ◌*◌, ◌/◌, ◌++◌, min, length, drop}
+use Rattle.std.specs.Iterator.Adapters.{enumerate_count}
 use Rattle.return_pixel.specs.Conversion.{pq_codes}
 use Rattle.rows.specs.Row.{span_bytes}
+use Rattle.rows.proofs.ChunkLaws.{PartsLeft}
 use Rattle.return_span.proofs.convert_blocks.Given as goal
 
-abbrev pub invariant-loop-j : goal.invariant-loop-j
-invariant-loop-j l =
-    (l.j ≤ l.pixels) × (length l.dst ≡ length l.initial.dst) × (l.dst ≡ span_bytes pq_codes l.src 0 l.j ++ drop (6 * l.j) l.initial.dst)
-    × (length l.red ≡ 64) × (length l.green ≡ 64) × (length l.blue ≡ 64) × (length l.low ≡ 64) × (length l.high ≡ 64)
-
-abbrev pub decreases-loop-j : goal.decreases-loop-j
-decreases-loop-j l = l.pixels - l.j
+abbrev pub invariant-loop-k : goal.invariant-loop-k
+invariant-loop-k l =
+    let n = min (64 * enumerate_count l.k-iterator) (length l.src / 6) in
+    record {
+      left : PartsLeft 384 l.src l.k-iterator;
+      long : length l.block ≡ 64;
+      converted : l.dst ≡ span_bytes pq_codes l.src 0 n ++ drop (6 * n) l.initial.dst;
+    }

@@ -1,9 +1,10 @@
--- `return_span::pixel_codes` meets its contract: what it lends are the scene lights and the thresholds.
-use Rattle.return_span.proofs.CodesLaws.{of_samples}
+-- `return_span::pixel_codes` meets its contract: the codes of a pixel's scene lights are the pixel's.
+use Rattle.quantity.specs.Component.{components}
+use Rattle.return_span.proofs.CodesLaws.{of_codes, has_codes}
 use Rattle.return_span.proofs.pixel_codes.Goals as goal
 
-pub returns : goal.returns
-returns c = let p = c.rooted.ensures in of_samples p.0 p.1 p.2 c.near_codes.ensures
+pub codes-requires : goal.codes-requires
+codes-requires c = let h = c.of.ensures in (h.root, of_codes (components c.args.p) _ h)
 
-pub near_codes-requires : goal.near_codes-requires
-near_codes-requires c = (c.threshold_table-thresholds.ensures, c.rooted.ensures.3)
+pub returns : goal.returns
+returns c = has_codes (components c.args.p) _ c.of.ensures c.codes.ensures

@@ -1,39 +1,28 @@
--- `span::pixel_codes` meets its contract: the tables are what their functions give, and each stage hands on the converted pixel's values.
-use Rattle.std.proofs.Common.{◌≡◌, ℕ, ◌≤◌, sym, subst, arith}
-use Rattle.quantity.specs.Units.{units, thousand}
-use Rattle.quantity.specs.declared.Source.{Source}
-use Rattle.quantity.specs.Component.{Component, red, green, blue, Pixel}
-use Rattle.hlg.specs.Root.{IsRoot}
-use Rattle.pixel.specs.Conversion.{mapped}
+-- `span::pixel_codes` meets its contract: each stage hands on the converted pixel's values.
+use Rattle.std.proofs.Common.{◌≡◌, ℕ, ap, ◌∙◌}
+use Rattle.quantity.specs.Component.{red, green, blue, Pixel, components}
+use Rattle.pixel.specs.Conversion.{mapped, code, code_of}
 use Rattle.pixel.proofs.PixelLaws.{mapped_at_most}
-use Rattle.span.proofs.CodesLaws.{codes_are}
+use Rattle.span.specs.Block.{IsShown, codes_of}
+use Rattle.span.specs.Span.{codes_under}
+use Rattle.span.proofs.MappingLaws.{shown_by}
 use Rattle.span.proofs.pixel_codes.Goals as goal
+use Rattle.span.proofs.pixel_codes.Goals.{After-map_codes-m}
 
-pub mapped_lights-m-requires : goal.mapped_lights-m-requires
-unfolding units
-mapped_lights-m-requires c = c.fill_lights-w.ensures
+shown : (c : After-map_codes-m) → IsShown c.map_codes-m.result
+shown c = shown_by c.map_codes-m.result _ c.map_codes-m.ensures (λ i. mapped_at_most _ _ i)
 
--- a mapped component is at most 1,000 cd/m2
-within : (source : Source) (p : Pixel) (i : Component) {x : ℕ} → x ≡ mapped source p i → x ≤ thousand
-within source p i e = omega (arith, mapped_at_most source p i)
-
-pub weigh-requires : goal.weigh-requires
-weigh-requires c =
-    let m = c.mapped_lights-m.ensures in
-    (within _ _ red m.0, within _ _ green m.1, within _ _ blue m.2)
+pub root_of-requires : goal.root_of-requires
+root_of-requires c = shown (goal.at.root_of-requires c).After-map_codes-m
 
 pub near_codes-requires : goal.near_codes-requires
-near_codes-requires c =
-    let m = c.mapped_lights-m.ensures in (
-      c.step_table-steps.ensures,
-      within _ _ red m.0,
-      within _ _ green m.1,
-      within _ _ blue m.2,
-      subst (IsRoot c.lower_root-root.result) c.weigh.ensures c.lower_root-root.ensures,
-    )
+near_codes-requires c = (shown (goal.at.near_codes-requires c).After-map_codes-m, c.root_of.ensures)
 
 pub returns : goal.returns
+unfolding code code_of mapped
 returns c =
-    let m = c.mapped_lights-m.ensures in
-    let read = c.read_source-read.ensures.0 in
-    rw (sym read) (codes_are _ _ m.0 m.1 m.2 c.near_codes.ensures)
+    let p = c.args.p in
+    let same : components c.near_codes.result ≡ codes_under c.args.source (components p) =
+    c.near_codes.ensures ∙ ap codes_of c.map_codes-m.ensures
+    ∙ ap (λ (k : ℕ). codes_of (mapped (record { peak = k; format = c.args.source.format }) (components p))) c.of.ensures in
+    (ap (λ (q : Pixel). q red) same, ap (λ (q : Pixel). q green) same, ap (λ (q : Pixel). q blue) same)

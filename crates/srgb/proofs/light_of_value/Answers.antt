@@ -10,5 +10,5 @@ pub returns : goal.returns
 returns c =
     let v = c.args.v in
     let h : v ≤ 255 = omega arith in
-    let same = light_read c.light_table-table.result v c.light_table-table.ensures h in
+    let same = light_read c.light_table.result.now v c.light_table.ensures h in
     (same, subst (IsLinearLight v) (sym same) (light_rule v h))

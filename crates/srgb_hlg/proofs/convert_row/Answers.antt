@@ -1,56 +1,50 @@
 -- `srgb_hlg::convert_row` meets its contract: a refusal leaves the destination, and a tested span lies in the row and is put in its place.
-use Rattle.std.proofs.Common.{◌≡◌, length, sym, ◌∙◌, arith}
+use Rattle.std.proofs.Common.{◌≡◌, Ok, length, sym, arith}
 use Rattle.quantity.specs.Component.{pixel}
-use Rattle.rows.specs.declared.RowAnswer.TheVariants.{Converted}
-use Rattle.rows.proofs.AnswerLaws.{refused_after}
+use Rattle.refusal.specs.declared.Refusal.TheVariants.{ElementCount}
 use Rattle.rows.proofs.ElementLaws.{AcceptedElements, accepted, converted_after}
 use Rattle.srgb.specs.Conversion.{caption_codes}
 use Rattle.srgb_hlg.specs.Row.{row_answer}
 use Rattle.srgb_hlg.proofs.convert_row.Goals as goal
-use Rattle.srgb_hlg.proofs.convert_row.Goals.{In_default}
+use Rattle.srgb_hlg.proofs.convert_row.Goals.{In_ok-test_elements}
 
 -- the call is not refused
-converted : (c : In_default) → let a = c.args in
-    row_answer a.row.now (length a.dst.now) a.first a.end ≡ Converted
-converted c = sym c.test_elements-answer.ensures ∙ c.in_default.is
+converted : (c : In_ok-test_elements) → let a = c.args in
+    row_answer a.row.now (length a.dst.now) a.first a.end ≡ Ok tt
+converted c = sym c.in_ok-test_elements.ensures
 
-tested : (c : In_default) → let a = c.args in
+tested : (c : In_ok-test_elements) → let a = c.args in
     AcceptedElements (length a.row.now) (length a.dst.now) a.first a.end
-tested c = accepted _ _ _ _ _ (converted c)
-
-pub returns-in-Refused : goal.returns-in-Refused
-returns-in-Refused c =
-    let e = c.test_elements-answer.ensures in
-    (e, refused_after _ _ _ _ (sym e ∙ c.in-Refused.is))
+tested c = accepted ElementCount _ _ _ _ (converted c)
 
 pub returns : goal.returns
 returns c =
     let row = c.args.row.now in
-    let taken = (goal.at.returns c).In_default in (
+    let taken = (goal.at.returns c).In_ok-test_elements in (
       sym (converted taken),
       converted_after pixel 0 caption_codes row _ _ _ _ _ (converted taken) (tested taken) (omega arith) c.convert_span.ensures,
     )
 
-pub overflow_mul-at : goal.overflow_mul-at
-overflow_mul-at c = let k = tested (goal.at.overflow_mul-at c).In_default in omega arith
+pub overflow_mul-first : goal.overflow_mul-first
+overflow_mul-first c = let k = tested (goal.at.overflow_mul-first c).In_ok-test_elements in record { fits = omega arith }
 
-pub overflow_mul-from : goal.overflow_mul-from
-overflow_mul-from c = let k = tested (goal.at.overflow_mul-from c).In_default in omega arith
+pub overflow_mul-first-2 : goal.overflow_mul-first-2
+overflow_mul-first-2 c = let k = tested (goal.at.overflow_mul-first-2 c).In_ok-test_elements in record { fits = omega arith }
 
-pub overflow_mul-to : goal.overflow_mul-to
-overflow_mul-to c = let k = tested (goal.at.overflow_mul-to c).In_default in omega arith
+pub overflow_mul-end : goal.overflow_mul-end
+overflow_mul-end c = let k = tested (goal.at.overflow_mul-end c).In_ok-test_elements in record { fits = omega arith }
 
 pub slice_bounds-convert_span-count : goal.slice_bounds-convert_span-count
-slice_bounds-convert_span-count c = let k = tested (goal.at.slice_bounds-convert_span-count c).In_default in omega arith
+slice_bounds-convert_span-count c = let k = tested (goal.at.slice_bounds-convert_span-count c).In_ok-test_elements in omega arith
 
 pub slice_bounds-convert_span-start : goal.slice_bounds-convert_span-start
-slice_bounds-convert_span-start c = let k = tested (goal.at.slice_bounds-convert_span-start c).In_default in omega arith
+slice_bounds-convert_span-start c = let k = tested (goal.at.slice_bounds-convert_span-start c).In_ok-test_elements in omega arith
 
 pub slice_bounds-convert_span-count-2 : goal.slice_bounds-convert_span-count-2
-slice_bounds-convert_span-count-2 c = let k = tested (goal.at.slice_bounds-convert_span-count-2 c).In_default in omega arith
+slice_bounds-convert_span-count-2 c = let k = tested (goal.at.slice_bounds-convert_span-count-2 c).In_ok-test_elements in omega arith
 
 pub slice_bounds-convert_span-start-2 : goal.slice_bounds-convert_span-start-2
-slice_bounds-convert_span-start-2 c = let k = tested (goal.at.slice_bounds-convert_span-start-2 c).In_default in omega arith
+slice_bounds-convert_span-start-2 c = let k = tested (goal.at.slice_bounds-convert_span-start-2 c).In_ok-test_elements in omega arith
 
 pub slice_bounds-convert_span-end-2 : goal.slice_bounds-convert_span-end-2
-slice_bounds-convert_span-end-2 c = let k = tested (goal.at.slice_bounds-convert_span-end-2 c).In_default in omega arith
+slice_bounds-convert_span-end-2 c = let k = tested (goal.at.slice_bounds-convert_span-end-2 c).In_ok-test_elements in omega arith

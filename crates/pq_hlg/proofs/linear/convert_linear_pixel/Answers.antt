@@ -1,77 +1,32 @@
--- `pq_hlg::linear::convert_linear_pixel` meets its contract: each return follows from the tests before it, and the distances of an accepted pixel from
--- their theorem.
-use mathlib.Core.Path.{◌≡◌, sym, ◌∙◌}
-use mathlib.Core.Bool.{false}
+-- `pq_hlg::linear::convert_linear_pixel` meets its contract: a taken peak is read as it is, and the distances of an accepted pixel are their theorem.
+use Rattle.std.proofs.Common.{◌≡◌, false, not, Ok, sym, ap, ◌∙◌}
+use Rattle.refusal.specs.declared.Refusal.TheVariants.{NotFinite}
+use Rattle.linear_light.specs.LinearLight.{finite}
+use Rattle.linear_light.specs.Conversion.{values, linear_code}
 use Rattle.linear_distance.proofs.Voted.{voted}
 use Rattle.pq_hlg.specs.Pixel.{peak_refused}
 use Rattle.pq_hlg.specs.Linear.{linear_pixel_answer, VotedLinearWhere}
-use Rattle.pq_hlg.proofs.TestLaws.{peak_taken}
+use Rattle.pq_hlg.proofs.TestLaws.{peak_taken, peak_passed, three_passed, rgb_is}
 use Rattle.pq_hlg.proofs.LinearLaws.{peak_read_lem}
 use Rattle.pq_hlg.proofs.linear.convert_linear_pixel.Goals as goal
-use Rattle.pq_hlg.proofs.linear.convert_linear_pixel.Goals.{After-linear_codes-codes}
+use Rattle.pq_hlg.proofs.linear.convert_linear_pixel.Goals.{After-linear_codes}
 
-pub returns-then-refuses_peak : goal.returns-then-refuses_peak
-unfolding linear_pixel_answer VotedLinearWhere
-returns-then-refuses_peak c = record { answer = simp (sym c.refuses_peak.ensures, c.if-refuses_peak.true); voted = tt }
+taken : (c : After-linear_codes) → peak_refused c.args.peak ≡ false
+taken c = peak_passed c.args.peak (sym c.in_ok-test_peak.ensures)
 
-pub returns-then-not-is_finite : goal.returns-then-not-is_finite
-unfolding linear_pixel_answer VotedLinearWhere
-returns-then-not-is_finite c = record {
-  answer = simp (sym c.refuses_peak.ensures, c.if-refuses_peak.false, sym c.is_finite.ensures, c.if-not-is_finite.true);
-  voted = tt;
-}
+pub returns-clause-answer : goal.returns-clause-answer
+unfolding linear_pixel_answer
+returns-clause-answer c =
+    let p = c.args.p in
+    let peak = taken (goal.at.returns-clause-answer c).After-linear_codes in
+    let codes = rw (peak_read_lem c.args.peak peak) at c.linear_codes.ensures in
+    let found = rgb_is c.linear_codes.result (linear_code c.args.peak (values p.red p.green p.blue)) codes.0 codes.1 codes.2 in
+    let tests = c.in_ok-test_values.ensures in
+    sym (simp peak (three_passed (not (finite p.red)) (not (finite p.green)) (not (finite p.blue)) (NotFinite 0) (NotFinite 1) (NotFinite 2) _ tests
+    ∙ ap Ok (sym found)))
 
-pub returns-then-not-is_finite-2 : goal.returns-then-not-is_finite-2
-unfolding linear_pixel_answer VotedLinearWhere
-returns-then-not-is_finite-2 c = record {
-  answer = simp (
-    sym c.refuses_peak.ensures,
-    c.if-refuses_peak.false,
-    sym c.is_finite.ensures,
-    c.if-not-is_finite.false,
-    sym c.is_finite-2.ensures,
-    c.if-not-is_finite-2.true,
-  );
-  voted = tt;
-}
-
-pub returns-then-not-is_finite-3 : goal.returns-then-not-is_finite-3
-unfolding linear_pixel_answer VotedLinearWhere
-returns-then-not-is_finite-3 c = record {
-  answer = simp (
-    sym c.refuses_peak.ensures,
-    c.if-refuses_peak.false,
-    sym c.is_finite.ensures,
-    c.if-not-is_finite.false,
-    sym c.is_finite-2.ensures,
-    c.if-not-is_finite-2.false,
-    sym c.is_finite-3.ensures,
-    c.if-not-is_finite-3.true,
-  );
-  voted = tt;
-}
-
--- the peak has passed its test
-taken : (c : After-linear_codes-codes) → peak_refused c.args.peak ≡ false
-taken c = sym c.refuses_peak.ensures ∙ c.if-refuses_peak.false
-
-pub returns : goal.returns
-unfolding linear_pixel_answer VotedLinearWhere
-returns c =
+pub returns-clause-voted : goal.returns-clause-voted
+unfolding VotedLinearWhere
+returns-clause-voted c =
     let peak = c.args.peak in
-    let codes = rw (peak_read_lem peak (taken (goal.at.returns c).After-linear_codes-codes)) at c.linear_codes-codes.ensures in record {
-      answer = simp (
-        sym c.refuses_peak.ensures,
-        c.if-refuses_peak.false,
-        sym c.is_finite.ensures,
-        c.if-not-is_finite.false,
-        sym c.is_finite-2.ensures,
-        c.if-not-is_finite-2.false,
-        sym c.is_finite-3.ensures,
-        c.if-not-is_finite-3.false,
-        codes.0,
-        codes.1,
-        codes.2,
-      );
-      voted = voted peak _ (peak_taken peak (taken (goal.at.returns c).After-linear_codes-codes)).1;
-    }
+    voted peak _ (peak_taken peak (taken (goal.at.returns-clause-voted c).After-linear_codes)).1

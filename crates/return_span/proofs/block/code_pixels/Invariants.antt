@@ -1,13 +1,16 @@
-use Rattle.std.proofs.Common.{◌≡◌, ◌-◌, ◌*◌, ◌≤◌, ◌++◌, length, drop}
+use Rattle.std.proofs.Common.{◌≡◌, ◌*◌, ◌++◌, drop}
+use Rattle.std.specs.Iterator.Adapters.{enumerate_count}
+use Rattle.quantity.specs.Component.{components}
 use Rattle.return_pixel.specs.Conversion.{pq_codes}
-use Rattle.rows.specs.Row.{span_bytes}
-use Rattle.return_span.specs.Codes.{HasCodes}
+use Rattle.rows.specs.Row.{pixel_bytes, span_bytes}
+use Rattle.rows.proofs.ChunkLaws.{Left}
 use Rattle.return_span.proofs.block.code_pixels.Given as goal
 
 abbrev pub invariant-loop-j : goal.invariant-loop-j
 invariant-loop-j l =
-    (l.j ≤ l.pixels) × (length l.dst ≡ length l.initial.dst) × (l.dst ≡ span_bytes pq_codes l.src 0 l.j ++ drop (6 * l.j) l.initial.dst)
-    × HasCodes l.last.red l.last.green l.last.blue l.last.codes.red l.last.codes.green l.last.codes.blue
-
-abbrev pub decreases-loop-j : goal.decreases-loop-j
-decreases-loop-j l = l.pixels - l.j
+    let j = enumerate_count l.j-iterator in
+    record {
+      left : Left 6 l.src l.j-iterator;
+      converted : l.dst ≡ span_bytes pq_codes l.src 0 j ++ drop (6 * j) l.initial.dst;
+      last : l.last.found ≡ pixel_bytes (pq_codes (components l.last.pixel));
+    }

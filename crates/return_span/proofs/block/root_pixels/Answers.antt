@@ -1,42 +1,45 @@
--- `return_span::block::root_pixels` meets its contract. The invariant: the first j pixels have their scene lights and roots at their places, and the last
--- pixel has its own. The measure is the number of pixels left.
-use Rattle.std.proofs.Common.{◌≡◌, ◌+◌, ◌-◌, ◌*◌, ◌∙◌, arith, length-drop, length-set, length-take}
-use Rattle.rows.proofs.RowLaws.{sample_of_part}
-use Rattle.return_span.proofs.BlockLaws.{rooted_none, rooted_more}
+-- `return_span::block::root_pixels` meets its contract. The invariant: the pixels so far have their scene lights and roots at their places, and the last
+-- pixel has its own.
+use Rattle.std.proofs.Common.{◌≡◌, ℕ, ◌⊎◌, inl, inr, sym, subst, arith, length-set}
+use Rattle.inverse_oetf.proofs.SceneLaws.{black_scene}
+use Rattle.quantity.specs.Component.{Pixel, components}
+use Rattle.quantity.specs.declared.Rgb.{Rgb}
+use Rattle.rows.proofs.ChunkLaws.{none_yet, next}
+use Rattle.return_span.specs.declared.scene.Rooted.{Rooted}
+use Rattle.return_span.specs.Settled.{IsRooted}
+use Rattle.return_span.proofs.RootLaws.{black_root}
+use Rattle.return_span.proofs.BlockLaws.{rooted_none, rooted_more, pixel_read}
 use Rattle.return_span.proofs.block.root_pixels.Goals as goal
+
+-- what is kept, or found, is the pixel's
+rooted : {p q : Rgb ℕ} {v w : Rooted} → IsRooted (components q) w → (v ≡ w) × (q ≡ p) ⊎ (Rgb ℕ × IsRooted (components p) v) → IsRooted (components p) v
+rooted h (inl e) = rw e.0 (rw e.1 at h)
+rooted h (inr k) = k.1
 
 pub loop-j-init : goal.loop-j-init
 loop-j-init c =
-    let pre = c.requires in
-    (omega arith, pre.3, pre.4, pre.5, pre.6, pre.7, rooted_none _ _ _ _ _ _, c.rooted_black-last.ensures)
-
-pub root_next-last-requires : goal.root_next-last-requires
-root_next-last-requires c =
-    (c.requires.0, simp (length-take, length-drop) (omega arith), c.loop-j.invariant.7)
+    let row = c.args.src.now in
+    let items = c.enumerate-j-items.ensures in
+    let chunks = c.chunks_exact.ensures in
+    let dark = sym black_scene in
+    rw c.into_iter-j-iterator.ensures.into_iter_gives (record {
+      left = none_yet 6 row _ (rw items.source chunks.size) (rw items.source chunks.rest) items.count;
+      long = c.requires.1;
+      rooted = rw items.count (rooted_none row _);
+      last = record { red = dark; green = dark; blue = dark; root = (omega arith, black_root) };
+    })
 
 pub loop-j-preserved : goal.loop-j-preserved
 loop-j-preserved c =
-    let loop = c.loop-j in
     let row = c.args.src.now in
-    let n = c.root_next-last.ensures in
-    let j = loop.j in
-    let part = 6 * j + 6 - 6 * j in
-    let r = n.0 ∙ sample_of_part row (6 * j) part 0 (3 * j) (omega arith) (omega arith) in
-    let g = n.1 ∙ sample_of_part row (6 * j) part 1 (3 * j + 1) (omega arith) (omega arith) in
-    let b = n.2 ∙ sample_of_part row (6 * j) part 2 (3 * j + 2) (omega arith) (omega arith) in
-    let here = rw (r, g, b) at n.3 in (
-      omega arith,
-      simp length-set loop.invariant.1,
-      simp length-set loop.invariant.2,
-      simp length-set loop.invariant.3,
-      simp length-set loop.invariant.4,
-      simp length-set loop.invariant.5,
-      rooted_more row _ _ _ _ _ j _ _ _ _ _ loop.invariant.6 here (omega arith) (omega arith) (omega arith) (omega arith) (omega arith),
-      n.3,
-    )
-
-pub returns : goal.returns
-returns c =
-    let e : c.loop-j.j ≡ c.args.pixels = omega arith in
+    let j = c.in-Some.j in
     let inv = c.loop-j.invariant in
-    (rw e at inv.6, inv.1, inv.2, inv.3, inv.4, inv.5)
+    let h = next 6 row c.loop-j.j-iterator c.next.new.self j c.in-Some.bytes inv.left c.in-Some.ensures.steps in
+    let own = rooted inv.last c.next-last.ensures.found in
+    let here = subst (λ (p : Pixel). IsRooted p c.next-last.result.found) (pixel_read row _ j _ h.chunk c.pixel_of.ensures.samples) own in
+    record {
+      left = h.left;
+      long = simp length-set inv.long;
+      rooted = rw h.count (rooted_more row c.loop-j.block j _ (rw h.place inv.rooted) here (omega (arith, h.left.within, h.count, inv.long, c.requires.0)));
+      last = rw c.next-last.ensures.pixel own;
+    }

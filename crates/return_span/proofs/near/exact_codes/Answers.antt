@@ -7,13 +7,13 @@ use Rattle.return_span.proofs.near.exact_codes.Goals as goal
 
 pub returns : goal.returns
 returns c =
-    let a = c.args in
-    let r : scene_read a.red ≡ a.red = omega (arith, last_light, c.requires.1) in
-    let g : scene_read a.green ≡ a.green = omega (arith, last_light, c.requires.2) in
-    let b : scene_read a.blue ≡ a.blue = omega (arith, last_light, c.requires.3) in
-    let lights = rw (r, g, b) at c.display_lights-light.ensures in
+    let a = c.args.scene in
+    let r : scene_read a.red ≡ a.red = omega (arith, last_light, c.requires.0) in
+    let g : scene_read a.green ≡ a.green = omega (arith, last_light, c.requires.1) in
+    let b : scene_read a.blue ≡ a.blue = omega (arith, last_light, c.requires.2) in
+    let lights = rw (r, g, b) at c.display_lights-lights.ensures in
     record {
-      red = c.code_of.ensures ∙ ap pq_code lights.red.0;
-      green = c.code_of-2.ensures ∙ ap pq_code lights.green.0;
-      blue = c.code_of-3.ensures ∙ ap pq_code lights.blue.0;
+      red = c.pq_code_of.ensures ∙ ap pq_code lights.red.0;
+      green = c.pq_code_of-2.ensures ∙ ap pq_code lights.green.0;
+      blue = c.pq_code_of-3.ensures ∙ ap pq_code lights.blue.0;
     }

@@ -1,22 +1,12 @@
 -- `return_span::root::roots_of` meets its contract: its two tests compare the power of a guess with that of the root, by `RootLaws`.
-use Rattle.std.proofs.Common.{◌≡◌, ℕ, zero, suc, ◌+◌, ◌-◌, ◌*◌, ◌/◌, ◌%◌, ◌^◌, ◌<◌, ◌≤◌, sym, ap, ◌∙◌, subst, le_trans, lt_irrefl, mod-eq_of_lt}
+use Rattle.std.proofs.Common.{◌≡◌, ℕ, ◌+◌, ◌-◌, ◌*◌, ◌/◌, ◌%◌, ◌^◌, ◌<◌, ◌≤◌, sym, ap, ◌∙◌, subst, le_trans, mod-eq_of_lt}
 use Rattle.std.proofs.Common.{mul-le-mul_left, div-add-mod', arith, lit<, pow_pos, pow_mono, pow-add}
 use lib.Pow.{shl-shr}
 use Rattle.laws.proofs.DivisionLaws.{floor_le, lt_floor}
 use Rattle.laws.proofs.PowerLaws.{of_power}
-use Rattle.return_span.specs.Settled.{Enclosed}
 use Rattle.return_span.proofs.RootLaws.{black_root, Fifth, fifth_under, fifth_over, lowered, lifted, some_guess, low_root, high_root}
 use Rattle.return_span.proofs.root.roots_of.Goals as goal
 use Rattle.return_span.proofs.root.roots_of.Goals.{After-upper_word-fifth, Else-fifth-power}
-
--- no root is found
-none : (y : ℕ) → Enclosed 0 0 y
-none y = record { low = λ h. absurd (lt_irrefl zero h); high = λ h. absurd (lt_irrefl zero h) }
-
--- the root of no light: a word all of whose digits are zeros is 0
-dark : (y z : ℕ) → 63 < z → y * 2 ^ z < 2 ^ 64 → Enclosed 0 1 y
-dark zero z h l = black_root
-dark (suc y) z h l = absurd (omega (arith, pow_mono {i = 64} {j = z} (omega arith), l))
 
 -- y moved up by all its zeros, and down by their rest by five, is scaled by a fifth power
 scaled_up : (y z : ℕ) → y * 2 ^ z < 2 ^ 64 → y * 2 ^ z % 2 ^ 64 / 2 ^ (z % 5) ≡ y * (2 ^ (z / 5)) ^ 5
@@ -83,28 +73,24 @@ returns c =
     let q = c.upper_word-power in
     let part = w / 1048576 + 1 in
     let input = scaled_up y z c.leading_zeros-z.ensures.1 in
-    let power = power_of_lem (goal.at.returns c).After-upper_word-fifth in
-    record {
-      low = λ _. low_root y n (2 ^ (z / 5)) q.result input (pow_pos (z / 5)) (w - part) _
-          (lowered w p q.result (w - part) (fifth_over w _ _ p c.root_hint-guess.type_inv c.upper_word-square.type_inv power)
-          c.if-power-fifth.false (omega (arith, some_part (goal.at.returns c).Else-fifth-power)))
-          (weighed_down n _ q.result q.ensures) (shifted_down (w - part) (z / 5));
-      high = λ _. high_root y n (2 ^ (z / 5)) q.result input (pow_pos (z / 5)) (w + part) _
-          (lifted w p q.result (w + part) (fifth_under w _ _ p power) c.if-fifth-power.false (omega arith))
-          (weighed_up n _ q.result q.ensures) (shifted_up_both w part (z / 5));
-    }
+    let power = power_of_lem (goal.at.returns c).After-upper_word-fifth in (
+      omega arith,
+      record {
+        low = λ _. low_root y n (2 ^ (z / 5)) q.result input (pow_pos (z / 5)) (w - part) _
+            (lowered w p q.result (w - part) (fifth_over w _ _ p c.root_hint-guess.type_inv c.upper_word-square.type_inv power)
+            c.if-power-fifth.false (omega (arith, some_part (goal.at.returns c).Else-fifth-power)))
+            (weighed_down n _ q.result q.ensures) (shifted_down (w - part) (z / 5));
+        high = λ _. high_root y n (2 ^ (z / 5)) q.result input (pow_pos (z / 5)) (w + part) _
+            (lifted w p q.result (w + part) (fifth_under w _ _ p power) c.if-fifth-power.false (omega arith))
+            (weighed_up n _ q.result q.ensures) (shifted_up_both w part (z / 5));
+      },
+    )
 
-pub returns-then-z-gt63 : goal.returns-then-z-gt63
-returns-then-z-gt63 c = dark _ _ c.if-z-gt63.true c.leading_zeros-z.ensures.1
+pub returns-then-y-eq0 : goal.returns-then-y-eq0
+returns-then-y-eq0 c = (omega arith, rw c.if-y-eq0.true black_root)
 
 pub overflow_add-fifth : goal.overflow_add-fifth
 overflow_add-fifth c = record { fits = least_fits c.upper_word-fifth.result c.upper_word-fifth.type_inv }
-
-pub returns-then-power-fifth : goal.returns-then-power-fifth
-returns-then-power-fifth c = none _
-
-pub returns-then-fifth-power : goal.returns-then-fifth-power
-returns-then-fifth-power c = none _
 
 pub overflow_add-result : goal.overflow_add-result
 overflow_add-result c = record { fits = omega (arith, high_fits (goal.at.overflow_add-result c).Else-fifth-power) }

@@ -1,11 +1,10 @@
-use Rattle.std.proofs.Common.{◌≡◌, ◌-◌, ◌*◌, ◌≤◌, ◌++◌, length, drop}
-use Rattle.span.specs.Block.{HasSamples, block_bytes}
+use Rattle.std.proofs.Common.{◌≡◌, ◌*◌, ◌++◌, drop}
+use Rattle.quantity.specs.Component.{components}
+use Rattle.rows.specs.Row.{pixels_bytes}
+use Rattle.span.specs.Block.{samples_of, samples_at}
 use Rattle.span.proofs.block.code_pixels.Given as goal
 
-abbrev pub invariant-loop-j : goal.invariant-loop-j
-invariant-loop-j l =
-    (l.j ≤ l.pixels) × (length l.dst ≡ length l.initial.dst) × (l.dst ≡ block_bytes l.format l.words l.j ++ drop (6 * l.j) l.initial.dst)
-    × HasSamples l.format l.last.red l.last.green l.last.blue l.last.samples.first l.last.samples.second l.last.samples.third
-
-abbrev pub decreases-loop-j : goal.decreases-loop-j
-decreases-loop-j l = l.pixels - l.j
+abbrev pub invariant-loop-k : goal.invariant-loop-k
+invariant-loop-k l =
+    (l.dst ≡ pixels_bytes (samples_at l.format l.mapped) 0 l.k ++ drop (6 * l.k) l.initial.dst)
+    × (components l.last.found ≡ samples_of l.format (components l.last.pixel))

@@ -1,27 +1,39 @@
--- `span::block::find_roots` meets its contract. The invariant: the luminances of the first j pixels have their roots, and the last luminance its own.
--- The measure is the number of pixels left.
-use Rattle.std.proofs.Common.{◌≡◌, arith, length-set}
-use Rattle.quantity.specs.Component.{red, green, blue}
-use Rattle.span.proofs.BlockLaws.{within_at, roots_none, roots_more}
+-- `span::block::find_roots` meets its contract. The invariant: the pixels so far have roots, and what is kept is a root of the last luminance.
+use Rattle.std.proofs.Common.{◌≡◌, ℕ, ◌∙◌, subst, arith, length-set, below_none}
+use Rattle.hlg.specs.Root.{IsRoot}
+use Rattle.span.specs.Block.{AllShown, RootsTo, luminance_of, pixel_at}
+use Rattle.span.proofs.BlockLaws.{no_root, written}
 use Rattle.span.proofs.block.find_roots.Goals as goal
+use Rattle.span.proofs.block.find_roots.Goals.{then-next-luminance, else-next-luminance}
 
-pub loop-j-init : goal.loop-j-init
-loop-j-init c =
-    (omega arith, c.requires.2, roots_none _ _, record { range = omega arith; low = λ h. absurd (omega arith); high = λ h. absurd (omega arith) })
+pub loop-k-init : goal.loop-k-init
+loop-k-init c = (c.requires.1, below_none _, no_root 0)
 
-pub weigh-y-requires : goal.weigh-y-requires
-weigh-y-requires c =
-    let w = within_at _ _ _ c.requires.1 c.loop-j-test.true in
-    let m = c.words_of-m.ensures in
-    (rw m.0 (w red), rw m.1 (w green), rw m.2 (w blue))
+pub weigh-next-requires : goal.weigh-next-requires
+unfolding AllShown
+weigh-next-requires c = c.requires.0 _ (omega arith)
 
-pub loop-j-preserved : goal.loop-j-preserved
-loop-j-preserved c =
-    let loop = c.loop-j in
-    let m = c.words_of-m.ensures in
-    let found = c.root_next-last.ensures in
-    let here = rw (c.weigh-y.ensures, m.0, m.1, m.2) at found.1 in
-    (omega arith, simp length-set loop.invariant.1, roots_more _ _ _ _ loop.invariant.2 here (omega arith), rw found.0 found.1)
+pub loop-k-preserved : goal.loop-k-preserved
+loop-k-preserved c =
+    let before = c.loop-k.invariant in
+    let y = c.if-next-luminance.luminance in
+    let found = c.if-next-luminance.found in
+    let now : IsRoot found y =
+    elim c.if-next-luminance.branch [
+      | then-next-luminance w ↦ rw (w.found-is, w.luminance-is) w.stored_root-found.ensures
+      | else-next-luminance w ↦ rw (w.found-is, w.luminance-is) before.2
+    ] in
+    let same : y ≡ c.weigh-next.result =
+    elim c.if-next-luminance.branch [
+      | then-next-luminance w ↦ omega (arith, w.luminance-is)
+      | else-next-luminance w ↦ omega (arith, w.luminance-is, w.if-next-luminance.false)
+    ] in
+    let here = subst (IsRoot found) (same ∙ c.weigh-next.ensures) now in (
+      simp length-set before.0,
+      written (λ (j g : ℕ). IsRoot g (luminance_of (pixel_at c.args.mapped.now j))) 0 _ c.loop-k.k found (omega arith) before.1 here,
+      now,
+    )
 
 pub returns : goal.returns
-returns c = let e : c.loop-j.j ≡ c.args.pixels = omega arith in rw e at c.loop-j.invariant.2
+unfolding RootsTo
+returns c = λ j h. c.loop-k.invariant.1 j (omega arith)

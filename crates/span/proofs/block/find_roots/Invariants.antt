@@ -1,11 +1,10 @@
-use Rattle.std.proofs.Common.{◌≡◌, ◌-◌, ◌≤◌, length}
+use Rattle.std.proofs.Common.{◌≡◌, ℕ, ◌<◌, slice_index, length}
 use Rattle.hlg.specs.Root.{IsRoot}
-use Rattle.span.specs.Block.{RootsTo}
+use Rattle.span.specs.Block.{pixel_at, luminance_of}
 use Rattle.span.proofs.block.find_roots.Given as goal
 
-abbrev pub invariant-loop-j : goal.invariant-loop-j
-invariant-loop-j l = (l.j ≤ l.pixels) × (length l.roots ≡ 32) × RootsTo l.words l.roots l.j
-    × IsRoot l.last.root l.last.luminance
-
-abbrev pub decreases-loop-j : goal.decreases-loop-j
-decreases-loop-j l = l.pixels - l.j
+abbrev pub invariant-loop-k : goal.invariant-loop-k
+invariant-loop-k l =
+    (length l.roots ≡ length l.mapped)
+    × ((j : ℕ) → j < l.k → IsRoot (slice_index l.roots j) (luminance_of (pixel_at l.mapped j)))
+    × IsRoot l.found l.luminance

@@ -1,38 +1,31 @@
--- `span::block::map_pixels` meets its contract. The invariant: the first j pixels are mapped to the words, and the last pixel to its components.
--- The measure is the number of pixels left.
-use Rattle.std.proofs.Common.{◌≡◌, ◌+◌, ◌-◌, ◌*◌, ◌<◌, length, subst, arith, length-drop, length-set, length-take}
-use Rattle.quantity.specs.Component.{Pixel, pixel}
-use Rattle.pixel.specs.Conversion.{mapped}
-use Rattle.rows.specs.Row.{pixel_at}
-use Rattle.span.specs.Block.{HasMapped, mapped_row}
-use Rattle.rows.proofs.RowLaws.{pixel_of_part}
-use Rattle.span.proofs.BlockLaws.{black_mapped, mapped_none, mapped_more}
+-- `span::block::map_pixels` meets its contract. The invariant: the pixels so far are mapped, and what is kept is what the last is mapped to.
+use Rattle.std.proofs.Common.{◌≡◌, ℕ, ◌+◌, sym, ◌∙◌, ap, arith, length-set, below_none}
+use Rattle.quantity.specs.declared.Rgb.{Rgb}
+use Rattle.quantity.specs.Component.{components}
+use Rattle.span.specs.Block.{dark, MappedTo}
+use Rattle.span.proofs.BlockLaws.{kept, written}
 use Rattle.span.proofs.block.map_pixels.Goals as goal
 
-pub loop-j-init : goal.loop-j-init
-loop-j-init c =
-    let k = c.mapped_black-last.ensures in
-    (omega arith, c.requires.4, mapped_none _ _, black_mapped c.args.source k.0 k.1 k.2 k.3 k.4 k.5)
+pub loop-k-init : goal.loop-k-init
+loop-k-init g c = (c.requires.0, below_none _, sym (g.met.R.Row.dark c.args.row.now))
 
-pub map_next-last-requires : goal.map_next-last-requires
-map_next-last-requires c =
-    (c.requires.0, c.requires.1, simp (length-take, length-drop) (omega arith), c.loop-j.invariant.3)
+pub overflow_add-first : goal.overflow_add-first
+overflow_add-first g c = omega arith
 
-pub loop-j-preserved : goal.loop-j-preserved
-loop-j-preserved c =
-    let a = c.args in
-    let loop = c.loop-j in
-    let room : 3 * loop.j + 2 < length loop.words = omega arith in
-    let src = a.src.now in
-    let next = c.map_next-last in
-    let n = next.ensures in
-    let m = next.result.mapped in
-    let stored = c.store_words.ensures in
-    let p : pixel next.result.red next.result.green next.result.blue ≡ pixel_at src loop.j =
-    rw (n.0, n.1, n.2) (pixel_of_part src (6 * loop.j) (6 * loop.j + 6 - 6 * loop.j) 0 loop.j (omega arith) (omega arith)) in
-    let here : HasMapped (mapped_row a.source src loop.j) m.red m.green m.blue =
-    subst (λ (q : Pixel). HasMapped (mapped a.source q) m.red m.green m.blue) p n.3 in
-    (omega arith, rw stored (simp length-set loop.invariant.1), rw stored (mapped_more _ _ _ loop.invariant.2 here room), n.3)
+pub loop-k-preserved : goal.loop-k-preserved
+loop-k-preserved g c =
+    let row = c.args.row.now in
+    let next = c.next-last in
+    let before = c.loop-k.invariant in
+    let now : components next.result.found ≡ g.R.Row.mapping row (components c.at.result) =
+    kept (λ (p v : Rgb ℕ). components v ≡ g.R.Row.mapping row (components p)) before.2 next.ensures.found (λ x. x.1) in
+    let here : components next.result.found ≡ g.R.Row.mapping row (g.R.Row.given row (c.args.first + c.loop-k.k)) =
+    now ∙ ap (g.R.Row.mapping row) c.at.ensures.given in (
+      simp length-set before.0,
+      written (λ (j : ℕ) (m : Rgb ℕ). components m ≡ g.R.Row.mapping row (g.R.Row.given row (c.args.first + j))) dark _ _ _ (omega arith) before.1 here,
+      rw next.ensures.pixel now,
+    )
 
 pub returns : goal.returns
-returns c = let e : c.loop-j.j ≡ c.args.pixels = omega arith in rw e at c.loop-j.invariant.2
+unfolding MappedTo
+returns g c = λ j h. c.loop-k.invariant.1 j (omega arith)

@@ -2,23 +2,22 @@
 use Rattle.std.proofs.Common.{◌≡◌, ◌+◌, ◌-◌, ◌*◌, ◌/◌, ap, ◌∙◌, arith}
 use Rattle.quantity.specs.Units.{units, thousand, last_position}
 use Rattle.position.specs.Position.{light_at, position_of}
-use Rattle.position.proofs.LightLaws.{lent_light}
 use Rattle.position.proofs.PositionLaws.{position_is}
 use Rattle.span.specs.Linear.{knee_light}
 use Rattle.span.proofs.curve.knee_light.Goals as goal
 
 pub overflow_mul-top : goal.overflow_mul-top
 unfolding last_position
-overflow_mul-top c = omega (arith, c.position_in.ensures, (position_is 16777216000).range)
+overflow_mul-top c = omega (arith, c.position_by_cell.ensures, (position_is 16777216000).range)
 
 pub overflow_add-top : goal.overflow_add-top
 unfolding last_position
-overflow_add-top c = omega (arith, c.position_in.ensures, (position_is 16777216000).range)
+overflow_add-top c = omega (arith, c.position_by_cell.ensures, (position_is 16777216000).range)
 
 pub returns : goal.returns
 unfolding knee_light units thousand
 returns c =
     let w = c.args.w.0 in
-    let top = 3 * c.position_in.result + 1 in
-    let at : (top - c.smaller.result) / 2 ≡ (3 * position_of thousand + 1 - w) / 2 = omega (arith, c.position_in.ensures) in
-    c.light_in-light.ensures ∙ lent_light _ _ c.requires ∙ ap light_at at
+    let top = 3 * c.position_by_cell.result.0 + 1 in
+    let at : (top - c.min.result) / 2 ≡ (3 * position_of thousand + 1 - w) / 2 = omega (arith, c.position_by_cell.ensures, c.min.ensures) in
+    c.light_at.ensures ∙ ap light_at at

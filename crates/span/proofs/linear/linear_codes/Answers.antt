@@ -1,50 +1,44 @@
--- `span::linear::linear_codes` meets its contract: the tables are what their functions give, and each stage hands on the converted pixel's values.
-use Rattle.std.proofs.Common.{◌≡◌, sym, ◌∙◌, subst}
-use Rattle.quantity.specs.Units.{units}
-use Rattle.quantity.specs.Component.{Pixel}
-use Rattle.eetf.specs.Curve.{peak_read}
-use Rattle.hlg.specs.Root.{IsRoot}
-use Rattle.linear_light.specs.Conversion.{values}
+-- `span::linear::linear_codes` meets its contract: each stage hands on the converted pixel's values.
+use Rattle.std.proofs.Common.{◌≡◌, ℕ, rules, ap, ◌∙◌}
+use Rattle.quantity.specs.Component.{red, green, blue, Pixel, components}
+use Rattle.pixel.specs.Conversion.{code_of}
+use Rattle.pixel.proofs.PixelLaws.{lights_mapped_at_most}
+use Rattle.linear_light.specs.LinearLight.{whole_light}
+use Rattle.linear_light.specs.Conversion.{values, lights_of, linear_code}
 use Rattle.linear_light.proofs.ValueLaws.{whole_at_most}
-use Rattle.span.specs.Block.{HasMapped}
-use Rattle.span.proofs.LinearLaws.{lights_within, values_mapped, values_coded}
+use Rattle.span.specs.Block.{IsShown, codes_of}
+use Rattle.span.specs.Span.{linear_codes_under}
+use Rattle.span.specs.Linear.{mapped_lights}
+use Rattle.span.proofs.MappingLaws.{pixel_is, shown_by}
 use Rattle.span.proofs.linear.linear_codes.Goals as goal
-
-pub curve_of-curve-requires : goal.curve_of-curve-requires
-unfolding units
-curve_of-curve-requires c = c.fill_lights-w.ensures
+use Rattle.span.proofs.linear.linear_codes.Goals.{After-map_lights-m}
 
 pub map_lights-m-requires : goal.map_lights-m-requires
 map_lights-m-requires c =
-    let curve = c.curve_of-curve.ensures in (
-      c.fill_lights-w.ensures.0,
-      curve.1,
-      rw c.light_of_value-r.ensures (whole_at_most _),
-      rw c.light_of_value-g.ensures (whole_at_most _),
-      rw c.light_of_value-b.ensures (whole_at_most _),
-    )
+    let r : c.map.result.red ≡ whole_light c.args.p.red = search rules in
+    let g : c.map.result.green ≡ whole_light c.args.p.green = search rules in
+    let b : c.map.result.blue ≡ whole_light c.args.p.blue = search rules in
+    elim [ red ↦ rw r (whole_at_most _) | green ↦ rw g (whole_at_most _) | blue ↦ rw b (whole_at_most _) ]
 
-pub weigh-requires : goal.weigh-requires
-weigh-requires c = lights_within _ _ c.map_lights-m.ensures
+shown : (c : After-map_lights-m) → IsShown c.map_lights-m.result
+shown c = shown_by c.map_lights-m.result _ c.map_lights-m.ensures (λ i. lights_mapped_at_most _ _ i)
+
+pub root_of-requires : goal.root_of-requires
+root_of-requires c = shown (goal.at.root_of-requires c).After-map_lights-m
 
 pub near_codes-requires : goal.near_codes-requires
-near_codes-requires c =
-    let within = lights_within _ _ c.map_lights-m.ensures in (
-      c.step_table-steps.ensures,
-      within.0,
-      within.1,
-      within.2,
-      subst (IsRoot c.lower_root-root.result) c.weigh.ensures c.lower_root-root.ensures,
-    )
+near_codes-requires c = (shown (goal.at.near_codes-requires c).After-map_lights-m, c.root_of.ensures)
 
 pub returns : goal.returns
+unfolding linear_code code_of
 returns c =
-    let m = c.map_lights-m in
-    let a = c.args in
-    let v = values a.p.red a.p.green a.p.blue in
-    let peak = c.curve_of-curve.result.peak in
-    let read : peak ≡ peak_read a.peak = c.curve_of-curve.ensures.0 ∙ c.read_peak-read.ensures in
-    let same =
-    values_mapped peak v c.light_of_value-r.ensures c.light_of_value-g.ensures c.light_of_value-b.ensures in
-    let mapped = subst (λ (q : Pixel). HasMapped q m.result.red m.result.green m.result.blue) same m.ensures in
-    rw (sym read) (values_coded peak v mapped c.near_codes.ensures)
+    let p = c.args.p in
+    let v = values p.red p.green p.blue in
+    let r : c.map.result.red ≡ whole_light p.red = search rules in
+    let g : c.map.result.green ≡ whole_light p.green = search rules in
+    let b : c.map.result.blue ≡ whole_light p.blue = search rules in
+    let same : components c.near_codes.result ≡ linear_codes_under c.args.peak v =
+    c.near_codes.ensures
+    ∙ ap codes_of (c.map_lights-m.ensures ∙ ap (mapped_lights c.of.result.peak) (pixel_is (lights_of v) r g b))
+    ∙ ap (λ (k : ℕ). codes_of (mapped_lights k (lights_of v))) c.of.ensures in
+    (ap (λ (q : Pixel). q red) same, ap (λ (q : Pixel). q green) same, ap (λ (q : Pixel). q blue) same)

@@ -1,8 +1,7 @@
--- `span::near::exact_codes` meets its contract: components of up to 1,000 cd/m2 are read as they are by `hlg_codes`.
-use native.Mathlib.Nat.{min-eq_left}
+-- `span::near::exact_codes` meets its contract: components of 0 have the code of black, and others of up to 1,000 cd/m2 are read as they are.
+use Rattle.std.proofs.Common.{rules}
+use Rattle.span.proofs.MappingLaws.{dark_coded}
 use Rattle.span.proofs.near.exact_codes.Goals as goal
 
-pub returns : goal.returns
-returns c =
-    let p = c.requires in
-    rw (min-eq_left p.0, min-eq_left p.1, min-eq_left p.2) at c.hlg_codes.ensures
+pub returns-then-eq : goal.returns-then-eq
+returns-then-eq c = dark_coded c.args.m (search rules)

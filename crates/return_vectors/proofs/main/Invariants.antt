@@ -1,5 +1,0 @@
--- `main` ends: the measure is the number of questions that it may still answer, and nothing else has to hold from turn to turn.
-use Rattle.return_vectors.proofs.main.Given as goal
-
-abbrev pub decreases-loop-questions : goal.decreases-loop-questions
-decreases-loop-questions l = l.questions
