@@ -71,7 +71,8 @@ impl<R: Read, E: Write> Input<'_, R, E> {
         done
     }
 
-    // One read; 0 at the end of the input, as a reader itself answers. A read that fails counts as the end and is told, so that half a title does not pass for a whole one.
+    // One read; 0 at the end of the input, as a reader itself answers. A read that fails counts as the end and is told, so that half a title does not pass
+    // for a whole one.
     fn read_some(&mut self, buffer: &mut [u8]) -> usize
         ensures within { result ≤ length buffer.old }
         ensures bytes { Consumes (R.remaining self.old.stream.now) (R.remaining self.new.stream.now) (take result buffer.new) }
