@@ -2,7 +2,7 @@
 use Rattle.std.specs.Prelude.{ℕ}
 use Rattle.refusal.specs.declared.Refusal.{Refusal}
 use Rattle.refusal.specs.declared.Refusal.TheVariants.{CardEmpty, UnknownBit, CardCut, FieldOutOfRange, NoPeak, Peak, RowLength, ValueCount, ElementCount}
-use Rattle.refusal.specs.declared.Refusal.TheVariants.{DestinationLength, Span, Sample, NotFinite, Code, Width, RowCut, NoPixel, RowCount}
+use Rattle.refusal.specs.declared.Refusal.TheVariants.{DestinationLength, Span, Sample, NotFinite, Code, Width, RowCut, NoPixel, RowCount, Own}
 
 abbrev pub number : Refusal → ℕ
 number CardEmpty = 1
@@ -23,9 +23,11 @@ number ValueCount = 15
 number (NotFinite i) = 16
 number NoPeak = 17
 number ElementCount = 18
+number (Own n i) = n
 
--- 0 except for a sample or a value, which has its own
+-- 0 except for a sample or a value, which has its own, and for a caller's own refusal
 abbrev pub place : Refusal → ℕ
 place (Sample i) = i
 place (NotFinite i) = i
+place (Own n i) = i
 place _ = 0

@@ -31,6 +31,8 @@ pub enum Refusal {
     // a measuring run: no pixel, or more rows than it counts
     NoPixel,
     RowCount,
+    // a refusal of a caller's own, by its number and place: the tests of rows serve calls with refusals that are not listed here
+    Own(u64, u64),
 }
 
 impl Refusal {
@@ -57,16 +59,18 @@ impl Refusal {
             Refusal::NotFinite(_) => 16,
             Refusal::NoPeak => 17,
             Refusal::ElementCount => 18,
+            Refusal::Own(number, _) => number,
         }
     }
 
-    // The place, counted from 0 at the start of the row or at the pixel's red; 0 where there is none.
+    // The place, counted from 0 at the start of the row or at the pixel's red, a caller's own as it gave it; 0 where there is none.
     pub fn place(self) -> u64
         ensures { result ≡ place self }
     {
         match self {
             Refusal::Sample(place) => place,
             Refusal::NotFinite(place) => place,
+            Refusal::Own(_, place) => place,
             _ => 0,
         }
     }
