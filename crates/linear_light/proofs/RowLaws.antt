@@ -1,5 +1,5 @@
 -- Laws of rows of values, which are rows of elements: what passed tests say, and that the number for a host fits.
-use Rattle.std.proofs.Common.{◌≡◌, ℕ, ◌+◌, ◌-◌, ◌*◌, ◌<◌, ◌≤◌, ltb, List, length, take, drop, arith, ltb-true, Result, Ok}
+use Rattle.std.proofs.Common.{◌≡◌, ℕ, ◌+◌, ◌-◌, ◌*◌, ◌<◌, ◌≤◌, ltb, List, length, take, drop, ◌∙◌, subst, arith, ltb-true, Result, Ok}
 use lib.Ieee.{Float, nan}
 use Rattle.refusal.specs.declared.Refusal.{Refusal}
 use Rattle.refusal.specs.declared.Refusal.TheVariants.{ValueCount}
@@ -13,7 +13,7 @@ use Rattle.linear_light.specs.Row.{linear_at, first_not_finite, linear_span_answ
 module _ (row : List Float) (bytes first end : ℕ) where
   pub accepted : linear_span_answer row bytes first end ≡ Ok tt → AcceptedElements (length row) bytes first end
   unfolding linear_span_answer
-  accepted e = (elements.accepted_then ValueCount (length row) bytes first end _ e).0
+  accepted e = (elements.accepted_then ValueCount (length row) bytes first end _ (elements.tests_then ValueCount (length row) bytes first end _ ∙ e)).0
 
   -- at most 16, and a value of the longest row
   pub host_number_fits : host_number (linear_span_answer row bytes first end) ≤ 6291456
@@ -21,8 +21,9 @@ module _ (row : List Float) (bytes first end : ℕ) where
   host_number_fits =
       let i = first_not_finite row (3 * first) (3 * (end - first)) in
       let P : Result (Unit {0}) Refusal → Type 0 = λ a. host_number a ≤ 6291456 in
-      elements.number_fits_then ValueCount (length row) bytes first end _ (omega arith) (λ k.
-      either P (ltb i (3 * end)) _ _ (λ d. omega (arith, ltb-true i (3 * end) d, k.within, k.longest)) (λ _. omega arith))
+      subst P (elements.tests_then ValueCount (length row) bytes first end _)
+      (elements.number_fits_then ValueCount (length row) bytes first end _ (omega arith) (λ k.
+      either P (ltb i (3 * end)) _ _ (λ d. omega (arith, ltb-true i (3 * end) d, k.within, k.longest)) (λ _. omega arith)))
 
 pub pixel_of_part : (row : List Float) (b k i j : ℕ) → b + 3 * i ≡ 3 * j → 3 * i + 2 < k → linear_at (take k (drop b row)) i ≡ linear_at row j
 pixel_of_part = elements.pixel_of_part values nan

@@ -1,12 +1,12 @@
 -- Rows of values in cd/m2 (request 11): pixels of three 32-bit floats, red, green, blue, and the tests of a call on a span, 15, 7, 8 and 16. A destination
 -- is a list of bytes, two to a sample; values and pixels are counted from 0 at the row's start.
-use Rattle.std.specs.Prelude.{ℕ, ◌-◌, ◌*◌, Bool, cond, not, List, length, nat_lt, slice_index_or, Float, Result, Ok, Err}
+use Rattle.std.specs.Prelude.{ℕ, ◌-◌, ◌*◌, ◌/◌, Bool, cond, not, List, length, nat_lt, slice_index_or, Float, Result, Ok, Err}
 use Rattle.std.specs.Float.{nan}
 use Rattle.quantity.specs.Component.{Pixel}
 use Rattle.refusal.specs.declared.Refusal.{Refusal}
-use Rattle.refusal.specs.declared.Refusal.TheVariants.{ValueCount, NotFinite}
-use Rattle.rows.specs.Answer.{first_of}
-use Rattle.rows.specs.Element.{elements_at, converted_elements, elements_into, elements_refused, elements_answer, and_then}
+use Rattle.refusal.specs.declared.Refusal.TheVariants.{ValueCount, DestinationLength, Span, NotFinite}
+use Rattle.rows.specs.Answer.{first_of, destination_refused, span_refused}
+use Rattle.rows.specs.Element.{elements_at, converted_elements, elements_into, elements_refused}
 use Rattle.linear_light.specs.LinearLight.{finite}
 use Rattle.linear_light.specs.Conversion.{Values, values}
 
@@ -38,5 +38,7 @@ first_not_finite row = first_of (λ i. not (finite (value_at row i)))
 unfoldable pub linear_span_answer : List Float → ℕ → ℕ → ℕ → Result (Unit {0}) Refusal
 linear_span_answer row bytes first end =
     let i = first_not_finite row (3 * first) (3 * (end - first)) in
-    and_then (elements_answer ValueCount (length row) bytes first end)
-    (cond (nat_lt i (3 * end)) (Err (NotFinite i)) (Ok tt))
+    cond (values_refused (length row)) (Err ValueCount)
+    (cond (destination_refused bytes (2 * length row)) (Err DestinationLength)
+    (cond (span_refused (length row / 3) first end) (Err Span)
+    (cond (nat_lt i (3 * end)) (Err (NotFinite i)) (Ok tt))))

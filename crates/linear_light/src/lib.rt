@@ -88,7 +88,6 @@ pub fn is_finite(x: f32) -> bool
 }
 
 // Tests 15, 7, 8 and 16 in their order, for the pixels of a span of a row and a destination of so many bytes.
-#[tactic(auto, unfolding(crate::specs::Row::linear_span_answer))]
 pub fn test_linear_span(row: &[f32], bytes: usize, span: Range<usize>) -> Result<(), Refusal>
     ensures { result ≡ linear_span_answer row.now bytes span.start span.end }
 {

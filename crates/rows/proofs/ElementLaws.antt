@@ -1,6 +1,6 @@
 -- Laws of rows whose samples each come from one element, whatever the elements are: what passed tests say, that the pixels of a part of a row are the row's,
 -- and the destination after a call that converts.
-use Rattle.std.proofs.Common.{◌≡◌, ℕ, ◌+◌, ◌-◌, ◌*◌, ◌/◌, ◌%◌, ◌<◌, ◌≤◌, false, List, ◌++◌, length, get_or, take, drop, sym, refl, ap, ◌∙◌, arith}
+use Rattle.std.proofs.Common.{◌≡◌, ℕ, ◌+◌, ◌-◌, ◌*◌, ◌/◌, ◌%◌, ◌<◌, ◌≤◌, Bool, true, false, cond, List, ◌++◌, length, get_or, take, drop, sym, refl, ap, ◌∙◌, arith}
 use Rattle.std.proofs.Common.{length-drop, length-take, get_or-drop, get_or-take, Result, Ok, Err}
 use Rattle.quantity.specs.Component.{Pixel}
 use Rattle.refusal.specs.declared.Refusal.{Refusal}
@@ -53,7 +53,21 @@ module _ (refusal : Refusal) (n bytes first end : ℕ) where
   pub number_fits : host_number (Err refusal) ≤ 6291456 → host_number (elements_answer refusal n bytes first end) ≤ 6291456
   number_fits h = by_tests (λ a. host_number a ≤ 6291456) h (omega arith) (omega arith) (λ k. omega arith)
 
-  -- where further tests follow: what a converted span has passed, and that the number fits if theirs does
+  -- where further tests follow, they stand behind these: test after test; what a converted span has passed, and that the number fits if theirs does
+  pub tests_then : (further : Result (Unit {0}) Refusal)
+      → and_then (elements_answer refusal n bytes first end) further
+      ≡ cond (elements_refused n) (Err refusal)
+      (cond (destination_refused bytes (2 * n)) (Err DestinationLength) (cond (span_refused (n / 3) first end) (Err Span) further))
+  unfolding elements_answer
+  tests_then further = go (elements_refused n) (destination_refused bytes (2 * n)) (span_refused (n / 3) first end)
+    where
+      go : (a b c : Bool) → and_then (cond a (Err refusal) (cond b (Err DestinationLength) (cond c (Err Span) (Ok tt)))) further
+          ≡ cond a (Err refusal) (cond b (Err DestinationLength) (cond c (Err Span) further))
+      go true b c = refl
+      go false true c = refl
+      go false false true = refl
+      go false false false = refl
+
   pub accepted_then : (further : Result (Unit {0}) Refusal) → and_then (elements_answer refusal n bytes first end) further ≡ Ok tt
       → AcceptedElements n bytes first end × (further ≡ Ok tt)
   accepted_then further =
