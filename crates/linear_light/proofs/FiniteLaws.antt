@@ -1,9 +1,11 @@
--- A value less itself is 0 where it is a number, and otherwise none: how a program tells what refusal 16 is for.
+-- A value less itself is 0 where it is a number, and otherwise none: how a program tells what refusal 16 is for. The library's test, which the code calls,
+-- tells the same.
 use Rattle.std.proofs.Common.{◌≡◌, ℕ, ◌-◌, ◌*◌, ◌<◌, Bool, true, false, cond, not, ◌&&◌, ◌||◌, eqb, ltb, sym, refl, ◌∙◌, le_refl, mul-pos, zero-mul, arith}
 use Rattle.std.proofs.Common.{lit<, le-ltb, eq-eqb}
 use mathlib.Core.Bool.{beq}
 use native.Mathlib.Nat.{eq_of_mul-eq-mul_right}
 use lib.Ieee.{Float, nan, inf, fin, up, down, sub, sum, round, binary32, eq}
+use Rattle.std.specs.Float.{float_is_finite}
 use lib.Ieee.Exact.{HasValue, round_exact}
 use lib.Ieee.Fits.{down_pos}
 use Rattle.linear_light.specs.LinearLight.{no_light, finite}
@@ -51,3 +53,12 @@ finite_by_difference nan = refl
 finite_by_difference (inf true) = refl
 finite_by_difference (inf false) = refl
 finite_by_difference (fin s m e) = opposite s (m * up e * down e) (down e * down e) (mul-pos (down_pos e) (down_pos e))
+
+library_test : (x : Float) → float_is_finite x ≡ finite x
+unfolding float_is_finite finite
+library_test nan = refl
+library_test (inf s) = refl
+library_test (fin s m e) = refl
+
+pub library_by_difference : (x : Float) → float_is_finite x ≡ eq (sub binary32 x x) no_light
+library_by_difference x = library_test x ∙ sym (finite_by_difference x)
