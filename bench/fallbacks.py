@@ -28,23 +28,25 @@ import srgb_lights
 
 TAKEN = 10                               # rows of a picture
 WORD = 2**64
-UNITS, THOUSAND = 2**24, 1_000 * 2**24
+UNITS, THOUSAND, TEN_THOUSAND = 2**24, 1_000 * 2**24, 10_000 * 2**24
 BLOCK = 32                               # pixels
+DARK = (0, 0, 0)                         # no light; as codes, ones that are read as black
 THOUSAND_POSITION, LAST_POSITION = 674_406, 897_024
 WHOLE, SIXTH = 12_379_400_392_853_802, 2_236_962_133_333_333_333
 LEAST, SPREAD, GUESS = 12_378_400_392_853_802, 2_000_000_000_000, 4_611_686_018_427_387_904
 
 # what of the above, and of the numbers below, stands in which file
 CONSTANTS = {
-    "span/src/block.rt": (96, 32, 64),
-    "span/src/hints.rt": (800, 33, 2**58, 64, 30, 32, 2**20, 2**38, 2**32, 1_024, 546, 876, 484),
+    "span/src/block.rt": (BLOCK, *DARK),
+    "span/src/cell.rt": (256, 3_503, 3_504),
+    "span/src/hints.rt": (800, 33, 2**58, 64, 30, 32, 2**20, 2**38, 2**32, 26, 31, 1_024, 546, 876, 484),
     "span/src/mapping.rt": (4, 64, 940, 1_024),
-    "span/src/near.rt": (2**17, 64, 65, 1_018, 1_020),
-    "span/src/root.rt": (2_627, 6_780, 593, 47, WHOLE, SIXTH, LEAST, SPREAD, GUESS, 128, 38),
-    "span/src/lib.rt": (BLOCK,),
+    "span/src/near.rt": (2**17, 64, 1_019),
+    "span/src/root.rt": (47, WHOLE, SIXTH, LEAST, SPREAD, GUESS, 128, 38),
     "eetf/src/lib.rt": (1_000, THOUSAND_POSITION, 674_504, 27),
+    "hlg_steps/src/lib.rt": (65,),
     "position/src/lib.rt": (256,),
-    "quantity/src/lib.rt": (UNITS, THOUSAND, LAST_POSITION),
+    "quantity/src/lib.rt": (UNITS, THOUSAND, TEN_THOUSAND, LAST_POSITION, 2_627, 6_780, 593),
     "srgb_hlg/src/hints.rt": (64, 65, 953),
     "srgb_hlg/src/code.rt": (64,),
 }
@@ -54,8 +56,9 @@ STEPS = [hlg_steps.step(d) for d in range(hlg_steps.FIRST, hlg_steps.LAST + 1)]
 
 
 def code_of(file):
-    """A file of the engine without its comments."""
-    return re.sub(r"//.*", "", (ROOT / "crates" / file).read_text(encoding="utf-8"))
+    """A file of the engine without its comments and contracts."""
+    code = re.sub(r"//.*", "", (ROOT / "crates" / file).read_text(encoding="utf-8"))
+    return re.sub(r"\b(requires|ensures)\b[\w ]*\{([^{}]|\{[^{}]*\})*\}", "", code)
 
 
 def constants_of(file):
@@ -84,29 +87,32 @@ def leading_zeros(x):
     return 64 - x.bit_length()
 
 
-# ---- position and eetf: nothing is guessed there
+# ---- laws, hlg_steps, pq, position and eetf: nothing is guessed there
 
 
-def read_code(d):
-    return min(max(d, 64), 940)
+def largest(passes, low, last):
+    """The last of low + 1 .. last that passes, else low, by halving."""
+    while low < last:
+        middle = last - (last - low) // 2
+        low, last = (middle, last) if passes(middle) else (low, middle - 1)
+    return low
 
 
-def light_of_code(d):
-    return LIGHTS[4 * (read_code(d) - 64)]
+def nearest_entry(table, i):
+    return table[min(i, len(table) - 1)]
+
+
+def step_of(d):
+    return nearest_entry(STEPS, max(d - 65, 0))
+
+
+def light_entry(k):
+    return nearest_entry(LIGHTS, k)
 
 
 def light_at(q):
-    k = q // 256
-    low, high = LIGHTS[k], LIGHTS[min(k + 1, len(LIGHTS) - 1)]
+    low, high = light_entry(q // 256), light_entry(q // 256 + 1)
     return low + (high - low) * (q % 256) // 256
-
-
-def position_of(light):
-    low, high = 0, LAST_POSITION + 1
-    while high - low > 1:
-        middle = (low + high) // 2
-        low, high = (middle, high) if light_at(middle) <= light else (low, middle)
-    return low
 
 
 def bent_light(w, peak, m1, m):
@@ -126,10 +132,29 @@ def bent_light(w, peak, m1, m):
 class Replay:
     """The passes of a block under one peak, and a count of what was sought and of what failed."""
 
-    def __init__(self, peak, hints):
-        self.peak, self.hints = peak, hints
-        self.w = position_of(peak * UNITS)
+    def __init__(self, peak, hints, cells):
+        self.peak, self.hints, self.cells = peak, hints, cells
+        self.w = self.position_by_cell(peak * UNITS)
         self.seen = Counter()
+
+    # cell.rt: once a call, for its peak
+
+    def is_cell(self, k, light):
+        return k < 3_504 and light_entry(k) <= light < light_entry(k + 1)
+
+    def cell_of(self, light):
+        hinted = self.cell_hint(light)
+        for k in (hinted, (hinted + 1) % WORD):
+            if self.is_cell(k, light):
+                return k
+        return largest(lambda k: light_entry(k) <= light, 0, 3_503)
+
+    def position_by_cell(self, light):
+        if light >= TEN_THOUSAND:
+            return LAST_POSITION
+        k = self.cell_of(light)
+        low, following = light_entry(k), light_entry(k + 1)
+        return 256 * k + (256 * (light - low + 1) - 1) // (following - low)
 
     # hints.rt
 
@@ -143,15 +168,24 @@ class Replay:
         if not 6 <= z <= 30:
             return 0
         n = p << z
-        line = self.hints[(30 - z) * 32 + n // 2**58]
+        return self.height(self.hints[(30 - z) * 32 + n // 2**58], n)
+
+    def height(self, line, n):
         return (line + line % 2**20 * (n // 2**38)) % WORD // 2**32
+
+    def cell_hint(self, light):
+        z = leading_zeros(light)
+        if not 26 <= z <= 31:
+            return 0
+        n = light << z
+        return self.height(self.cells[(31 - z) * 32 + n // 2**58], n)
 
     def factor_hint(self, m, m2):
         if not 546 <= m // 1_024 <= 876:
             return 0
         return (upper_word(m2 << 30, self.hints[484 + m // 1_024]) + 1) % WORD
 
-    # codes.rt
+    # mapping.rt
 
     def scaled(self, c, m1, m2, factor):
         self.seen["quotients"] += 1
@@ -161,9 +195,12 @@ class Replay:
         self.seen["divided"] += 1
         return c * m2 // m1
 
-    def mapped_lights(self, pixel):
-        lights = tuple(map(light_of_code, pixel))
-        m1, m = max(lights), 1_024 * (read_code(max(pixel)) - 64)
+    def ten_bit_above(self, d):
+        return min(max(d, 64), 940) - 64
+
+    def map_codes(self, pixel):
+        lights = tuple(light_entry(4 * self.ten_bit_above(d)) for d in pixel)
+        m1, m = max(lights), 1_024 * self.ten_bit_above(max(pixel))
         m2 = bent_light(self.w, self.peak, m1, m)
         if m1 == m2:
             return lights
@@ -172,10 +209,14 @@ class Replay:
 
     # root.rt
 
+    def weigh(self, mapped):
+        r, g, b = mapped
+        return 2_627 * r + 6_780 * g + 593 * b
+
     def lower_root(self, y):
         z = leading_zeros(y)
         if z > 47:
-            return 0
+            return None
         n = y << z
         w = self.root_hint(n, z)
         square = upper_word(w, w) + 1
@@ -183,81 +224,90 @@ class Replay:
         fourth = upper_word(square, square) + 1
         power = upper_word(fourth, weighed) + 1
         if (power - LEAST) % WORD > SPREAD or w < GUESS:
-            return 0
+            return None
         return upper_word(upper_word(w, SIXTH), (7 * WHOLE - power) * 128) >> 38 - z // 6
 
     # near.rt
 
     def is_settled(self, s, u, d):
-        return 65 <= d <= 1_018 and STEPS[d - 65] <= s and u < STEPS[d - 64]
+        return 64 < d < 1_019 and step_of(d) <= s and u < step_of(d + 1)
 
-    def search_near(self, s, u, low, high):
-        while high - low > 1:
-            middle = low + (high - low) // 2
-            if STEPS[middle - 65] <= s:
-                low = middle
-            elif u < STEPS[middle - 65]:
-                high = middle
-            else:
-                return 0
-        return low
+    def searched_code(self, s, u):
+        d = largest(lambda d: step_of(d) <= s, 64, 1_019)
+        return None if d < 1_019 and step_of(d + 1) <= u else d
 
     def near_code(self, r, g):
-        low, high = r * g >> 17, r * g + 2 * r >> 17
-        d = self.code_hint(r * g)
+        low = r * g
+        s, u, d = low >> 17, low + 2 * r >> 17, self.code_hint(low)
         self.seen["codes"] += r > 0
-        if self.is_settled(low, high, d):
+        if self.is_settled(s, u, d):
             return d
         if r == 0:
             return 64
         self.seen["halved"] += 1
-        d = self.search_near(low, high, 64, 1_020)
-        self.seen["open"] += d == 0
+        d = self.searched_code(s, u)
+        self.seen["open"] += d is None
         return d
+
+    def codes_by_root(self, root, mapped):
+        """The codes, or nothing where the tests leave one open: those after it are not sought."""
+        if root is None:
+            return None
+        codes = []
+        for r in mapped:
+            code = self.near_code(r, root)
+            if code is None:
+                return None
+            codes.append(code)
+        return codes
 
     def near_codes(self, root, mapped):
         """The codes, or nothing where the exact comparison makes them."""
-        if root == 0 and max(mapped) == 0:
+        codes = self.codes_by_root(root, mapped)
+        if codes is None and mapped == DARK:
             return [64] * 3
-        codes = [self.near_code(r, root) for r in mapped] if root else [0]
-        if min(codes) == 0:
-            self.seen["compared"] += 1
-            return None
+        self.seen["compared"] += codes is None
         return codes
 
     # block.rt
 
-    def block(self, pixels):
-        """The codes of a block; nothing for a pixel of the exact comparison."""
-        words, roots, codes = [], [], []
-        last, mapped = (64, 64, 64), (0, 0, 0)
+    def map_pixels(self, pixels):
+        last, mapped = DARK, DARK
         for pixel in pixels:
             if pixel == last:
                 self.seen["equal"] += 1
             else:
-                last, mapped = pixel, self.mapped_lights(pixel)
-            words.append(mapped)
-        luminance = root = 0
-        for r, g, b in words:
-            y = 2_627 * r + 6_780 * g + 593 * b
+                last, mapped = pixel, self.map_codes(pixel)
+            yield mapped
+
+    def find_roots(self, words):
+        luminance, root = 0, None
+        for mapped in words:
+            y = self.weigh(mapped)
             if y != luminance:
                 luminance, root = y, self.lower_root(y)
                 self.seen["roots"] += y > 0
-                self.seen["rootless"] += y > 0 and root == 0
-            roots.append(root)
-        last, found = (0, 0, 0), [64] * 3
-        for root, mapped in zip(roots, words):
+                self.seen["rootless"] += y > 0 and root is None
+            yield root
+
+    def code_pixels(self, words, roots):
+        last, found = DARK, [64] * 3
+        for mapped, root in zip(words, roots):
             if mapped != last:
                 last, found = mapped, self.near_codes(root, mapped)
-            codes.append(found)
+            yield found
+
+    def convert_block(self, pixels):
+        """The codes of a block; nothing for a pixel of the exact comparison."""
         self.seen["pixels"] += len(pixels)
-        return codes
+        words = list(self.map_pixels(pixels))
+        return list(self.code_pixels(words, list(self.find_roots(words))))
 
     def row(self, pixels):
         """A row, block by block; each code is held to the second implementation's."""
         for start in range(0, len(pixels), BLOCK):
             block = pixels[start:start + BLOCK]
-            for pixel, codes in zip(block, self.block(block)):
+            for pixel, codes in zip(block, self.convert_block(block)):
                 if codes is not None and tuple(codes) != true_codes(self.peak, pixel):
                     raise SystemExit(f"peak {self.peak}, pixel {pixel}: the replay found {codes}")
 
@@ -342,10 +392,10 @@ def show(name, seen, shares):
 
 def main(peak):
     check_constants()
-    hints, chosen = list(hint_tool.entries()), {y * HEIGHT // TAKEN for y in range(TAKEN)}
+    hints, cells, chosen = list(hint_tool.entries()), list(hint_tool.cells()), {y * HEIGHT // TAKEN for y in range(TAKEN)}
     print(f"peak {peak:,}, {TAKEN * WIDTH:,} pixels of each picture; percent, and of how many")
     for name in PICTURES:
-        replay = Replay(peak, hints)
+        replay = Replay(peak, hints, cells)
         for row in rows_of(name, chosen):
             replay.row(pixels_of(row))
         show(name, replay.seen, SHARES)
