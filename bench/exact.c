@@ -2,7 +2,8 @@
  *
  * Built by exact.py, which says in EACH(X) which trees there are. Of tree n two
  * functions are linked: exact_codes_n gives the sum of the three codes,
- * exact_step_n fills the step table and reads one entry.
+ * exact_step_n reads one step, for which a tree that keeps the step table as a
+ * constant fills it.
  *
  * A component is drawn by lot from 0 to 1,000 cd/m2 and halved up to 19 times,
  * each number of times alike. A time is the median of ROUNDS, in CPU time.
@@ -20,7 +21,7 @@ EACH(DECLARE)
 
 enum { PIXELS = 20000, HALVINGS = 20, ONE = 7, WAYS = 3 };
 
-static const char *const NAMES[WAYS] = { "pixels drawn by lot", "one pixel, again and again", "filling the step table" };
+static const char *const NAMES[WAYS] = { "pixels drawn by lot", "one pixel, again and again", "one step" };
 static uint64_t (*const codes[])(uint64_t, uint64_t, uint64_t) = { EACH(CODES) };
 static uint64_t (*const step[])(uint64_t) = { EACH(STEP) };
 enum { TREES = sizeof(codes) / sizeof(codes[0]) };

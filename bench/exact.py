@@ -4,8 +4,7 @@
 
 The static library hands only rows on, so each tree's crates are copied to a temporary folder with one crate more, which hands
 `hlg_codes` on to C and is proved and built there; what a tree has proved already is not proved again. Each line that is printed
-has one figure a tree, this one's first; no time is asserted. A tree whose `hlg_codes` takes the lights one by one needs the
-bench/exact.py of its own.
+has one figure a tree, this one's first; no time is asserted.
 """
 
 import shutil
@@ -21,16 +20,12 @@ SOURCE = """// The exact codes of three mapped components, for C to time.
 
 use hlg::hlg_codes;
 use hlg_steps::step_of;
-use quantity::{DisplayLight, Rgb};
+use quantity::USED;
 
 // The sum of the three codes.
 #[unsafe(no_mangle)]
 pub extern "C" fn exact_codes(red: u64, green: u64, blue: u64) -> u64 {
-    let codes = hlg_codes(Rgb {
-        red: DisplayLight(red),
-        green: DisplayLight(green),
-        blue: DisplayLight(blue),
-    });
+    let codes = hlg_codes(LIGHTS);
     codes.red.wrapping_add(codes.green).wrapping_add(codes.blue)
 }
 
@@ -40,6 +35,17 @@ pub extern "C" fn exact_step(code: u64) -> u64 {
     step_of(code).0
 }
 """
+# how a tree's `hlg_codes` takes the lights of a pixel: together, and before there was an `Rgb` of them one by one
+TOGETHER = "pub fn hlg_codes(p: Rgb<DisplayLight>)"
+LIGHTS = "Rgb { red: DisplayLight(red), green: DisplayLight(green), blue: DisplayLight(blue) }"
+ONE_BY_ONE = "DisplayLight(red), DisplayLight(green), DisplayLight(blue)"
+
+
+def source_of(tree):
+    """The crate that hands a tree's `hlg_codes` on."""
+    together = TOGETHER in (tree / "crates/hlg/src/lib.rt").read_text(encoding="utf-8")
+    used, lights = ("{DisplayLight, Rgb}", LIGHTS) if together else ("DisplayLight", ONE_BY_ONE)
+    return SOURCE.replace("USED", used).replace("LIGHTS", lights)
 
 
 def build_library(tree, folder):
@@ -47,7 +53,7 @@ def build_library(tree, folder):
     shutil.copytree(tree / "crates", folder / "crates", ignore=shutil.ignore_patterns("out"))
     source = folder / "crates" / CRATE / "src/lib.rt"
     source.parent.mkdir(parents=True)
-    source.write_text(SOURCE, encoding="utf-8")
+    source.write_text(source_of(tree), encoding="utf-8")
     crates = (tree / "crates.txt").read_text(encoding="utf-8")
     (folder / "crates.txt").write_text(f"{crates}\n{CRATE} staticlib: quantity hlg_steps hlg\n", encoding="utf-8")
     run = subprocess.run(["rt", "lib"], cwd=source.parents[1], capture_output=True, text=True)
