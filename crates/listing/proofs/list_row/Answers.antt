@@ -43,8 +43,8 @@ loop-bytes-init c =
 
 pub put_line-requires : goal.put_line-requires
 put_line-requires c =
-    let p = c.pixel_of.result in
-    let line = line_short p.red p.green p.blue c.pixel_of.ensures.bounds.0 c.pixel_of.ensures.bounds.1 c.pixel_of.ensures.bounds.2 in
+    let p = c.pixel_of-p.result in
+    let line = line_short p.red p.green p.blue c.pixel_of-p.ensures.bounds.0 c.pixel_of-p.ensures.bounds.1 c.pixel_of-p.ensures.bounds.2 in
     let kept = c.loop-bytes.invariant in
     let came = c.in-Some.ensures.steps.1 in
     let n = length c.loop-bytes.yielded in
@@ -53,8 +53,8 @@ put_line-requires c =
 
 pub loop-bytes-preserved : goal.loop-bytes-preserved
 loop-bytes-preserved c =
-    let p = c.pixel_of.result in
-    let line = line_short p.red p.green p.blue c.pixel_of.ensures.bounds.0 c.pixel_of.ensures.bounds.1 c.pixel_of.ensures.bounds.2 in
+    let p = c.pixel_of-p.result in
+    let line = line_short p.red p.green p.blue c.pixel_of-p.ensures.bounds.0 c.pixel_of-p.ensures.bounds.1 c.pixel_of-p.ensures.bounds.2 in
     let codes = c.args.codes.now in
     let chunk = c.in-Some.bytes.now in
     let left = c.next.new.self.rest.now in
@@ -64,7 +64,7 @@ loop-bytes-preserved c =
     let long = came.1 ∙ kept.size in
     let whole = sym kept.rest ∙ came.0 in
     let count : length (c.loop-bytes.yielded ++ (c.in-Some.bytes ∷ [])) ≡ n + 1 = simp length-append in
-    let pixel = pixel_of_chunk codes chunk left n long whole p c.pixel_of.ensures.samples in
+    let pixel = pixel_of_chunk codes chunk left n long whole p c.pixel_of-p.ensures.samples in
     rw count (record {
       size = c.in-Some.ensures.steps.0 ∙ kept.size;
       within = within_after codes chunk left n long whole;

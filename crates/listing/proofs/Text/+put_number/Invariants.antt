@@ -1,5 +1,0 @@
-use Rattle.listing.proofs.Text.+put_number.Given as goal
-
--- the number
-abbrev pub decreases-put_number : goal.decreases-put_number
-decreases-put_number l = l.n
