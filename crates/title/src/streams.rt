@@ -10,7 +10,8 @@ use listing::list_refusal;
 use refusal::Refusal;
 use std::io::{Read, Write};
 
-// The input that has a title. A read that fails is told where errors are, by the name of the program that reads.
+// The input that has a title. A read that fails is told where errors are, by the name of the program that reads. No call puts another reference in the place
+// of one of the three: who lent them has them again.
 #[derive(Drop)]
 pub struct Input<'a, R, E> {
     pub stream: &'a mut R,
@@ -25,6 +26,8 @@ impl<R: Read, E: Write> Input<'_, R, E> {
             × (result ≡ opening_answer opening) }
         ensures width { IfOk result (λ layout. layout.width ≤ 8192) }
         ensures same_stream { self.new.stream.ghost_name ≡ self.old.stream.ghost_name }
+        ensures same_errors { self.new.errors.ghost_name ≡ self.old.errors.ghost_name }
+        ensures same_program { self.new.program ≡ self.old.program }
     {
         let mut opening = [0u8; 7];
         let got = self.read_opening_bytes(&mut opening);
@@ -37,6 +40,8 @@ impl<R: Read, E: Write> Input<'_, R, E> {
         ensures within { result ≤ 7 }
         ensures bytes { Consumes (R.remaining self.old.stream.now) (R.remaining self.new.stream.now) (take result opening.new) }
         ensures same_stream { self.new.stream.ghost_name ≡ self.old.stream.ghost_name }
+        ensures same_errors { self.new.errors.ghost_name ≡ self.old.errors.ghost_name }
+        ensures same_program { self.new.program ≡ self.old.program }
     {
         let mut got = 0;
         loop {
@@ -59,6 +64,8 @@ impl<R: Read, E: Write> Input<'_, R, E> {
         ensures within { result ≤ length buffer.old }
         ensures bytes { Consumes (R.remaining self.old.stream.now) (R.remaining self.new.stream.now) (take result buffer.new) }
         ensures same_stream { self.new.stream.ghost_name ≡ self.old.stream.ghost_name }
+        ensures same_errors { self.new.errors.ghost_name ≡ self.old.errors.ghost_name }
+        ensures same_program { self.new.program ≡ self.old.program }
     {
         let mut done = 0;
         while done < buffer.len() {
@@ -77,6 +84,8 @@ impl<R: Read, E: Write> Input<'_, R, E> {
         ensures within { result ≤ length buffer.old }
         ensures bytes { Consumes (R.remaining self.old.stream.now) (R.remaining self.new.stream.now) (take result buffer.new) }
         ensures same_stream { self.new.stream.ghost_name ≡ self.old.stream.ghost_name }
+        ensures same_errors { self.new.errors.ghost_name ≡ self.old.errors.ghost_name }
+        ensures same_program { self.new.program ≡ self.old.program }
     {
         match self.stream.read(buffer) {
             Ok(got) => got,

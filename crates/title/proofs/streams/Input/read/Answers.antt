@@ -21,4 +21,6 @@ loop-done-preserved g c =
       within = omega (arith, kept, fits, length_read);
       bytes = subst (Consumes _ _) front (Consumes-trans _ _ _ _ _ c.loop-done.invariant.bytes c.read_some-more.ensures.bytes);
       same = c.read_some-more.ensures.same_stream ∙ c.loop-done.invariant.same;
+      errors = c.read_some-more.ensures.same_errors ∙ c.loop-done.invariant.errors;
+      program = c.read_some-more.ensures.same_program ∙ c.loop-done.invariant.program;
     }

@@ -61,4 +61,6 @@ loop-got-preserved g c =
           subst (Consumes _ _) (part_written got (got + asked - got) came old part (omega arith) fits)
           (Consumes-trans _ _ _ _ _ c.loop-got.invariant.bytes c.read-came.ensures.bytes);
       same = c.read-came.ensures.same_stream ∙ c.loop-got.invariant.same;
+      errors = c.read-came.ensures.same_errors ∙ c.loop-got.invariant.errors;
+      program = c.read-came.ensures.same_program ∙ c.loop-got.invariant.program;
     }

@@ -9,6 +9,8 @@ invariant-loop-got g l =
       room : length l.opening ≡ length l.initial.opening;
       bytes : Consumes (g.R.Read.remaining l.initial.self.stream.now) (g.R.Read.remaining l.self.stream.now) (take l.got l.opening);
       same : l.self.stream.ghost_name ≡ l.initial.self.stream.ghost_name;
+      errors : l.self.errors.ghost_name ≡ l.initial.self.errors.ghost_name;
+      program : l.self.program ≡ l.initial.self.program;
     }
 
 -- what is left of the seven
