@@ -98,7 +98,8 @@ pub fn test_linear_span(row: &[f32], bytes: usize, span: Range<usize>) -> Result
     }
 }
 
-// The first value of a part of a row that is infinite or no number.
+// The first value of a part of a row that is infinite or no number. A call of its own, as `rows::first_refused` is.
+#[inline(never)]
 pub fn first_not_finite(row: &[f32], values: Range<usize>) -> Option<usize>
     ensures { let end = min values.end (length row.now) in
         result ≡ before end (first_not_finite row.now values.start (end - values.start)) }

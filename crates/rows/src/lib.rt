@@ -95,7 +95,9 @@ pub fn refuses_span(pixels: usize, span: &Range<usize>) -> bool
     span.end < span.start || pixels < span.end
 }
 
-// The first sample of a part of a row that is not taken.
+// The first sample of a part of a row that is not taken. A call of its own: in the midst of a row call the compiler carries the place's number for a host
+// along from sample to sample, which took the return path's rows 1.3 ns a sample for 0.65.
+#[inline(never)]
 pub fn first_refused(row: &[u8], samples: Range<usize>, taken: Taken) -> Option<usize>
     ensures { let end = min samples.end (length row.now / 2) in
         result ≡ before end (first_refused (outside taken.least taken.most) row.now samples.start (end - samples.start)) }
