@@ -32,24 +32,28 @@ pub fn measure_title<R: Read, W: Write, E: Write>(
     }
 }
 
-// The run over a title, or its first refusal. One row of the widest title is all that is held at a time.
+// The run over a title, or its first refusal.
 fn run_of_title<R: Read, E: Write>(
     input: &mut Input<'_, R, E>,
     limit: u64,
 ) -> Result<RunRecord, Refusal> {
     let layout = input.open_title()?;
-    let mut row = [0u8; 49152];
-    let bytes = 6 * layout.width;
-    run_of_rows(input, layout, limit, &mut row[..bytes])
+    run_of_rows(input, layout, limit)
 }
 
-// Reads row after row until one is refused or there is none.
+// Reads row after row until one is refused or there is none. One row of the widest title is all that is held at a time, and none of a title whose opening is
+// refused.
+#[inline(never)]
 fn run_of_rows<R: Read, E: Write>(
     input: &mut Input<'_, R, E>,
     layout: Layout,
     limit: u64,
-    row: &mut [u8],
-) -> Result<RunRecord, Refusal> {
+) -> Result<RunRecord, Refusal>
+    requires { layout.width ≤ 8192 }
+{
+    let mut widest = [0u8; 49152];
+    let bytes = 6 * layout.width;
+    let row = &mut widest[..bytes];
     let mut run = RunRecord::fresh();
     for _ in 0..limit {
         let got = input.read(row);
