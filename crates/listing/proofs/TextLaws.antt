@@ -10,7 +10,8 @@ use lib.ListN.{length, length-append, set, take, drop}
 use lib.Seq.{sets, sets-eq, length-sets}
 use borrow.Author.Tests.{lt-ltb, le-ltb}
 use borrow.Rule.Slice.PartMut.{put_mid, post_of, Post-is}
-use Rattle.quantity.specs.Component.{Component, red, green, blue, Pixel, pixel}
+use Rattle.quantity.specs.declared.Rgb.{Rgb}
+use Rattle.quantity.specs.Component.{Component, red, green, blue, Pixel, pixel, components}
 use Rattle.listing.specs.Text.{digit, digits_of, decimal, space, line_feed, line, lines, refusal_line, Stored, opened}
 
 -- how many more digits are allowed for plays no part where they are enough
@@ -74,6 +75,11 @@ pub room_after : {text before after : List ℕ} {at next : ℕ} (more : ℕ) →
     → next + more ≤ length after
 room_after {text} {before} {after} {at} more p h = omega (arith, p.place, ap length p.bytes, length-sets before at text)
 
+-- and so has what is no longer than that room
+pub room_for : {text before after : List ℕ} {at next more most : ℕ} → Stored text at next before after → more ≤ most
+    → at + (length text + most) ≤ length before → next + more ≤ length after
+room_for {most = most} p fits h = let room = room_after most p h in omega arith
+
 -- a text that was put at the start
 pub from_start : {text before after : List ℕ} {next : ℕ} → Stored text 0 next before after → length text ≤ length before
     → (next ≡ length text) × (after ≡ opened text before)
@@ -93,6 +99,9 @@ length_line r g b = simp length-append (omega arith)
 pub line_short : (r g b : ℕ) → r < 65536 → g < 65536 → b < 65536 → length (line (pixel r g b)) ≤ 18
 line_short r g b hr hg hb =
     omega (arith, length_line r g b, length_decimal 4 r (omega arith), length_decimal 4 g (omega arith), length_decimal 4 b (omega arith))
+
+pub line_fits : (p : Rgb ℕ) → p.red < 65536 → p.green < 65536 → p.blue < 65536 → length (line (components p)) ≤ 18
+line_fits p = line_short p.red p.green p.blue
 
 -- a line of three 64-bit numbers
 pub line_within_lem : (r g b : ℕ) → r < 2 ^ 64 → g < 2 ^ 64 → b < 2 ^ 64 → length (line (pixel r g b)) ≤ 63

@@ -21,7 +21,7 @@ pub overflow_add-result-2 : goal.overflow_add-result-2
 overflow_add-result-2 t c =
     let all = simp length-append at (ap length (decimal_more _ c.if-n-lt10.false)) in
     let within : c.put_digits-last.result < length c.put_digits-last.new.buffer =
-        omega (arith, all, c.put_digits-last.ensures.place, c.put_digits-last.auto.buffer) in
+    omega (arith, all, c.put_digits-last.ensures.place, c.put_digits-last.auto.buffer) in
     search rules
 
 pub returns : goal.returns

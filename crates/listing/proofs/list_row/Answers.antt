@@ -9,7 +9,7 @@ use Rattle.quantity.specs.Component.{components}
 use Rattle.rows.specs.Row.{sample_at, pixel_at}
 use Rattle.rows.proofs.RowLaws.{pixel_of_part}
 use Rattle.listing.specs.Text.{lines, row_text, row_text_within}
-use Rattle.listing.proofs.TextLaws.{after, room_after, from_start, lines_more, line_short}
+use Rattle.listing.proofs.TextLaws.{after, room_for, from_start, lines_more, line_short, line_fits}
 use Rattle.listing.proofs.list_row.Goals as goal
 
 -- the chunk that comes off the rest of the codes after n others: a pixel, and what is left
@@ -43,13 +43,12 @@ loop-bytes-init c =
 
 pub put_line-requires : goal.put_line-requires
 put_line-requires c =
-    let p = c.pixel_of-p.result in
-    let line = line_short p.red p.green p.blue c.pixel_of-p.ensures.bounds.0 c.pixel_of-p.ensures.bounds.1 c.pixel_of-p.ensures.bounds.2 in
+    let bounds = c.pixel_of-p.ensures.bounds in
     let kept = c.loop-bytes.invariant in
     let came = c.in-Some.ensures.steps.1 in
     let n = length c.loop-bytes.yielded in
     let within = within_after c.args.codes.now c.in-Some.bytes.now c.next.new.self.rest.now n (came.1 ∙ kept.size) (sym kept.rest ∙ came.0) in
-    room_after _ kept.stored (omega (arith, kept.stored.place))
+    room_for kept.stored (line_fits _ (omega (arith, bounds)) (omega (arith, bounds)) (omega (arith, bounds))) (omega (arith, kept.stored.place))
 
 pub loop-bytes-preserved : goal.loop-bytes-preserved
 loop-bytes-preserved c =
