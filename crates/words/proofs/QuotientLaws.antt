@@ -17,16 +17,26 @@ quotient_is q n m e =
     let high : n < q * m + m = ltb-true n (q * m + m) w.1 in
     (floor_is {q = q} {a = n} {b = m} (omega arith)).1 (low, omega arith)
 
--- the difference r of n and q m in 128 bits decides alone: it is a rest below m, or wraps to more than a word
-pub rest_decides : (q n m r : ℕ) → (r + q * m) % 2 ^ 128 ≡ n → q < 2 ^ 64 → m < 2 ^ 64 → n < 2 ^ 128 → r < 2 ^ 128 → ltb r m ≡ is_quotient q n m
+-- where q m and r make n, r alone decides
+pub rest_decides : (q n m r : ℕ) → q * m + r ≡ n → ltb r m ≡ is_quotient q n m
 unfolding is_quotient
-rest_decides q n m r e hq hm hn hr = go (dec_le (q * m) n) (dec_le m r)
+rest_decides q n m r e = go (dec_le m r)
+  where
+    low : leb (q * m) n ≡ true
+    low = le-leb (q * m) n (omega arith)
+
+    go : Dec (m ≤ r) → ltb r m ≡ (leb (q * m) n && ltb n (q * m + m))
+    go (yes h) = le-ltb r m h ∙ sym (ap₂ ◌&&◌ low (le-ltb n (q * m + m) (omega arith)))
+    go (no h) = lt-ltb r m (omega arith) ∙ sym (ap₂ ◌&&◌ low (lt-ltb n (q * m + m) (omega arith)))
+
+-- the difference r of n and q m in 128 bits decides alone: it is a rest below m, or wraps to more than a word
+pub difference_decides : (q n m r : ℕ) → (r + q * m) % 2 ^ 128 ≡ n → q < 2 ^ 64 → m < 2 ^ 64 → n < 2 ^ 128 → r < 2 ^ 128 → ltb r m ≡ is_quotient q n m
+unfolding is_quotient
+difference_decides q n m r e hq hm hn hr = go (dec_le (q * m) n)
   where
     part : q * m ≤ 18446744073709551615 * 18446744073709551615
     part = mul-le-mul {n₁ = q} {m₁ = m} {n₂ = 18446744073709551615} {m₂ = 18446744073709551615} (omega arith) (omega arith)
 
-    go : Dec (q * m ≤ n) → Dec (m ≤ r) → ltb r m ≡ (leb (q * m) n && ltb n (q * m + m))
-    go (yes h) (yes k) = le-ltb r m k ∙ sym (ap₂ ◌&&◌ (le-leb (q * m) n h) (le-ltb n (q * m + m) (omega (arith, part))))
-    go (yes h) (no k) = lt-ltb r m (omega arith) ∙ sym (ap₂ ◌&&◌ (le-leb (q * m) n h) (lt-ltb n (q * m + m) (omega (arith, part))))
-    go (no h) (yes k) = le-ltb r m k ∙ sym (ap (λ (b : Bool). b && ltb n (q * m + m)) (lt-leb (q * m) n (omega arith)))
-    go (no h) (no k) = absurd (omega (arith, part))
+    go : Dec (q * m ≤ n) → ltb r m ≡ (leb (q * m) n && ltb n (q * m + m))
+    go (yes h) = rest_decides q n m r (omega arith)
+    go (no h) = le-ltb r m (omega (arith, part)) ∙ sym (ap (λ (b : Bool). b && ltb n (q * m + m)) (lt-leb (q * m) n (omega arith)))
