@@ -13,7 +13,7 @@ use quantity::{DisplayLight, Rgb, THOUSAND};
 use reach::reached;
 
 // The HLG codes of three mapped components, 64 to 1,019 each.
-#[tactic(auto, unfolding(quantity::specs::Units::thousand, quantity::specs::Units::units))]
+#[tactic(auto, using(crate::proofs::CodeLaws::code_to), unfolding(quantity::specs::Units::thousand, quantity::specs::Units::units))]
 pub fn hlg_codes(p: Rgb<DisplayLight>) -> Rgb<u64>
     ensures { HlgCodes (min p.red.0 thousand) (min p.green.0 thousand) (min p.blue.0 thousand) result.red result.green result.blue }
 {
