@@ -17,11 +17,15 @@ use block::{BYTES, DARK, PIXELS, code_pixels, root_pixels};
 use quantity::Rgb;
 use scene::Rooted;
 
-// The pixels that fill dst, converted from the first ones of src: as many whole ones as both have. Other bytes of dst remain.
+// The pixels that fill dst, converted from the first ones of src: as many whole ones as both have. Other bytes of dst remain. An empty span needs
+// no block.
 pub fn convert_span(src: &[u8], dst: &mut [u8])
     ensures { dst.new ≡ converted_into pq_codes src.now dst.old }
 {
     let bytes = src.len().min(dst.len()) / 6 * 6;
+    if bytes == 0 {
+        return;
+    }
     convert_blocks(&src[..bytes], &mut dst[..bytes]);
 }
 

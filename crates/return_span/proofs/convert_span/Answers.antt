@@ -2,9 +2,12 @@
 use Rattle.std.proofs.Common.{◌≡◌, ℕ, ◌*◌, ◌/◌, List, ◌++◌, length, take, drop, ap, ap₂, ◌∙◌, arith, length-take}
 use Rattle.return_pixel.specs.Conversion.{pq_codes}
 use Rattle.rows.specs.Row.{converted, span_bytes}
-use Rattle.rows.proofs.RowLaws.{span_of_part}
+use Rattle.rows.proofs.RowLaws.{span_of_part, no_pixels}
 use Rattle.rows.proofs.SpanLaws.{begun}
 use Rattle.return_span.proofs.convert_span.Goals as goal
+
+pub returns-then-bytes-eq0 : goal.returns-then-bytes-eq0
+returns-then-bytes-eq0 c = no_pixels _ _ _ (omega arith)
 
 pub returns : goal.returns
 returns c =
