@@ -30,16 +30,21 @@ use root::root_of;
 use row::CodeRow;
 use ycbcr::SignalFormat;
 
-// The pixels that fill dst, converted from the first ones of src: as many whole ones as both have. Other bytes of dst remain.
+// The pixels that fill dst, converted from the first ones of src: as many whole ones as both have. Other bytes of dst remain. An empty span needs
+// no curve.
 pub fn convert_span(source: Source, format: SignalFormat, src: &[u8], dst: &mut [u8])
     ensures { dst.new ≡ converted_into (delivered_under format source) src.now dst.old }
 {
+    let pixels = src.len().min(dst.len()) / 6;
+    if pixels == 0 {
+        return;
+    }
     let row = CodeRow {
         curve: Curve::of(source.peak),
         format: source.format,
         codes: src,
     };
-    convert_pixels(&row, format, dst);
+    convert_pixels(&row, pixels, format, dst);
 }
 
 // The HLG codes of one pixel.

@@ -15,15 +15,20 @@ use linear_light::light_of_value;
 use quantity::Rgb;
 use ycbcr::SignalFormat;
 
-// The pixels that fill dst with their HLG codes, converted from the first ones of src: as many whole ones as both have. Other bytes of dst remain.
+// The pixels that fill dst with their HLG codes, converted from the first ones of src: as many whole ones as both have. Other bytes of dst remain. An empty
+// span needs no curve.
 pub fn convert_linear_span(peak: u64, src: &[f32], dst: &mut [u8])
     ensures { dst.new ≡ linear_into (linear_codes_under peak) src.now dst.old }
 {
+    let pixels = (src.len() / 3).min(dst.len() / 6);
+    if pixels == 0 {
+        return;
+    }
     let row = FloatRow {
         curve: Curve::of(peak),
         values: src,
     };
-    convert_pixels(&row, SignalFormat::Rgb, dst);
+    convert_pixels(&row, pixels, SignalFormat::Rgb, dst);
 }
 
 // The HLG codes of one pixel.

@@ -18,15 +18,12 @@ use rows::pixel_of;
 
 // A row of pixels, each given by three numbers that are mapped to components in units.
 pub(crate) trait Row {
+    // how many pixels it has
     ghost pixels: { Self → ℕ };
 
     ghost given: { Self → ℕ → Pixel };
 
     ghost mapping: { Self → Pixel → Pixel };
-
-    // How many pixels it has.
-    fn count(&self) -> usize
-        ensures { result ≡ pixels self.now };
 
     // The numbers of pixel j.
     fn at(&self, j: usize) -> Rgb<u64>
@@ -60,10 +57,6 @@ impl<'a> Row for CodeRow<'a> {
 
     ghost mapping = { λ row. mapped (record { peak = row.curve.peak; format = row.format }) };
 
-    fn count(&self) -> usize {
-        self.codes.len() / 6
-    }
-
     fn at(&self, j: usize) -> Rgb<u64> {
         pixel_of(&self.codes[6 * j..6 * j + 6])
     }
@@ -90,10 +83,6 @@ impl<'a> Row for FloatRow<'a> {
     ghost given = { λ row j. lights_of (linear_at row.values.now j) };
 
     ghost mapping = { λ row. mapped_lights row.curve.peak };
-
-    fn count(&self) -> usize {
-        self.values.len() / 3
-    }
 
     fn at(&self, j: usize) -> Rgb<u64> {
         Rgb {
