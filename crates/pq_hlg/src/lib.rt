@@ -32,7 +32,8 @@ pub fn convert_pixel(source: Source, p: Rgb<u64>) -> Result<Rgb<u64>, Refusal>
 {
     test_peak(source.peak)?;
     test_pixel(p, Taken::of(source.format))?;
-    Ok(pixel_codes(source, p))
+    let codes = pixel_codes(source, p);
+    Ok(codes)
 }
 
 // Luma, Cb and Cr of three RGB codes, in the places of red, green and blue as in a row. Refuses 14: a code that HLG does not have.

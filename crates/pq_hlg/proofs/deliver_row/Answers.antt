@@ -22,6 +22,7 @@ tested c = (row_accepted _ _ _ _ _ (converted c)).1
 pub returns : goal.returns
 returns c =
     let e = converted (goal.at.returns c).In_ok-test_span in
+    let k = tested (goal.at.returns c).In_ok-test_span in
     (sym e, row_converted (delivered c.args.format) _ _ _ _ _ _ _ e c.convert_span.ensures (omega arith))
 
 pub overflow_mul-first : goal.overflow_mul-first
