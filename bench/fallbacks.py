@@ -30,7 +30,7 @@ TAKEN = 10                               # rows of a picture
 WORD = 2**64
 UNITS, THOUSAND, TEN_THOUSAND = 2**24, 1_000 * 2**24, 10_000 * 2**24
 BLOCK = 32                               # pixels
-DARK = (0, 0, 0)                         # no light; as codes, ones that are read as black
+BLACK, DARK = (64, 64, 64), (0, 0, 0)    # codes, and no light
 THOUSAND_POSITION, LAST_POSITION = 674_406, 897_024
 WHOLE, SIXTH = 12_379_400_392_853_802, 2_236_962_133_333_333_333
 LEAST, SPREAD, GUESS = 12_378_400_392_853_802, 2_000_000_000_000, 4_611_686_018_427_387_904
@@ -46,6 +46,7 @@ CONSTANTS = {
     "eetf/src/lib.rt": (1_000, THOUSAND_POSITION, 674_504, 27),
     "hlg_steps/src/lib.rt": (65,),
     "position/src/lib.rt": (256,),
+    "quantity/src/sample_format.rt": (16, 4),
     "quantity/src/lib.rt": (UNITS, THOUSAND, TEN_THOUSAND, LAST_POSITION, 2_627, 6_780, 593),
     "srgb_hlg/src/hints.rt": (64, 65, 953),
     "srgb_hlg/src/code.rt": (64,),
@@ -272,7 +273,7 @@ class Replay:
     # block.rt
 
     def map_pixels(self, pixels):
-        last, mapped = DARK, DARK
+        last, mapped = BLACK, DARK
         for pixel in pixels:
             if pixel == last:
                 self.seen["equal"] += 1

@@ -1,4 +1,4 @@
--- Codes up to black are mapped to no light in any format, so three numbers of 0 are, and as lights too. The two kinds of rows cite the last two.
+-- Codes up to black are mapped to no light in any format, so three numbers of 0 are, and as lights too. The two kinds of rows cite the last three.
 use Rattle.std.proofs.Common.{◌≡◌, ℕ, ◌≤◌, refl, arith}
 use mathlib.Core.Path.{fun_ext}
 use Rattle.quantity.specs.declared.sample_format.SampleFormat.{SampleFormat}
@@ -25,6 +25,12 @@ dark_mapped source p h =
 
 pub black_mapped : (source : Source) → mapped source (pixel 0 0 0) ≡ pixel 0 0 0
 black_mapped source = dark_mapped source (pixel 0 0 0) (elim [ red ↦ omega arith | green ↦ omega arith | blue ↦ omega arith ])
+
+-- three codes of black
+pub black_code_mapped : (source : Source) → let d = black source.format in mapped source (pixel d d d) ≡ pixel 0 0 0
+black_code_mapped source =
+    let d = black source.format in
+    dark_mapped source (pixel d d d) (elim [ red ↦ omega arith | green ↦ omega arith | blue ↦ omega arith ])
 
 pub no_light_mapped : (peak : ℕ) → mapped_lights peak (pixel 0 0 0) ≡ pixel 0 0 0
 no_light_mapped peak =

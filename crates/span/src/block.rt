@@ -18,7 +18,7 @@ use ycbcr::SignalFormat;
 // The pixels of a block.
 const BLOCK: usize = 32;
 
-// No light; as numbers of a row, black, which is mapped to it.
+// No light, to which black is mapped.
 pub(crate) const DARK: Rgb<u64> = Rgb {
     red: 0,
     green: 0,
@@ -55,8 +55,13 @@ fn map_pixels<R: Row>(row: &R, first: usize, mapped: &mut [Rgb<u64>])
     requires { (first + length mapped.old ≤ R.pixels row.now) × (first + length mapped.old < 2 ^ 64) }
     ensures { MappedTo (λ (k : ℕ). R.mapping row.now (R.given row.now (first + k))) mapped.new }
 {
+    let black = row.black();
     let mut last = Kept {
-        pixel: DARK,
+        pixel: Rgb {
+            red: black,
+            green: black,
+            blue: black,
+        },
         found: DARK,
     };
     for (k, found) in mapped.iter_mut().enumerate() {

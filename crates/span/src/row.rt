@@ -1,6 +1,7 @@
 // The rows that a span is converted from: of codes, and of floats.
 ghost use Rattle.std.specs.Prelude.{◌≡◌, ℕ, ◌/◌, ◌<◌, ◌≤◌, length};
 ghost use Rattle.quantity.specs.Units.{thousand, ten_thousand};
+ghost use Rattle.quantity.specs.SampleFormat.{black};
 ghost use Rattle.quantity.specs.Component.{Component, Pixel, pixel, components};
 ghost use Rattle.pixel.specs.Conversion.{mapped};
 ghost use Rattle.pixel.proofs.PixelLaws.{mapped_at_most, lights_mapped_at_most};
@@ -8,7 +9,7 @@ ghost use Rattle.rows.specs.Row.{pixel_at};
 ghost use Rattle.linear_light.specs.Conversion.{lights_of};
 ghost use Rattle.linear_light.specs.Row.{linear_at};
 ghost use Rattle.span.specs.Linear.{mapped_lights};
-ghost use Rattle.span.specs.Dark.{black_mapped, no_light_mapped};
+ghost use Rattle.span.specs.Dark.{black_mapped, black_code_mapped, no_light_mapped};
 
 use crate::curve::Curve;
 use linear_light::light_of_value;
@@ -25,6 +26,8 @@ pub(crate) trait Row {
 
     ghost mapping: { Self → Pixel → Pixel };
 
+    ghost number_of_black: { Self → ℕ };
+
     // The numbers of pixel j.
     fn at(&self, j: usize) -> Rgb<u64>
         requires { j < pixels self.now }
@@ -36,8 +39,14 @@ pub(crate) trait Row {
         requires { (i : Component) → components p i ≤ ten_thousand }
         ensures { components result ≡ mapping self.now (components p) };
 
-    // three numbers of 0 are black, and no mapped component is above 1,000 cd/m2
+    // The number of black, as pictures have it: a block that begins with black pixels takes them over.
+    fn black(&self) -> u64
+        ensures { result ≡ number_of_black self.now };
+
+    // three numbers of 0 are black, and so are three of black's; no mapped component is above 1,000 cd/m2
     ghost dark: { (row : Self) → mapping row (pixel 0 0 0) ≡ pixel 0 0 0 };
+
+    ghost black_dark: { (row : Self) → mapping row (pixel (number_of_black row) (number_of_black row) (number_of_black row)) ≡ pixel 0 0 0 };
 
     ghost shown: { (row : Self) (p : Pixel) (i : Component) → mapping row p i ≤ thousand };
 }
@@ -57,6 +66,8 @@ impl<'a> Row for CodeRow<'a> {
 
     ghost mapping = { λ row. mapped (record { peak = row.curve.peak; format = row.format }) };
 
+    ghost number_of_black = { λ row. black row.format };
+
     fn at(&self, j: usize) -> Rgb<u64> {
         pixel_of(&self.codes[6 * j..6 * j + 6])
     }
@@ -65,7 +76,13 @@ impl<'a> Row for CodeRow<'a> {
         self.curve.map_codes(self.format, p)
     }
 
+    fn black(&self) -> u64 {
+        self.format.black_code()
+    }
+
     ghost dark = { λ row. black_mapped (record { peak = row.curve.peak; format = row.format }) };
+
+    ghost black_dark = { λ row. black_code_mapped (record { peak = row.curve.peak; format = row.format }) };
 
     ghost shown = { λ row p i. mapped_at_most (record { peak = row.curve.peak; format = row.format }) p i };
 }
@@ -84,6 +101,8 @@ impl<'a> Row for FloatRow<'a> {
 
     ghost mapping = { λ row. mapped_lights row.curve.peak };
 
+    ghost number_of_black = { λ row. 0 };
+
     fn at(&self, j: usize) -> Rgb<u64> {
         Rgb {
             red: light_of_value(self.values[3 * j]).0,
@@ -96,7 +115,13 @@ impl<'a> Row for FloatRow<'a> {
         self.curve.map_lights(p)
     }
 
+    fn black(&self) -> u64 {
+        0
+    }
+
     ghost dark = { λ row. no_light_mapped row.curve.peak };
+
+    ghost black_dark = { λ row. no_light_mapped row.curve.peak };
 
     ghost shown = { λ row p i. lights_mapped_at_most row.curve.peak p i };
 }

@@ -1,5 +1,5 @@
 -- `span::convert_span` meets its contract: the pixels are those of a row of codes.
-use Rattle.std.proofs.Common.{◌≡◌, ℕ, ◌/◌, min, length, ap, ◌∙◌, arith}
+use Rattle.std.proofs.Common.{ℕ, ◌/◌, min, length, ap, ◌∙◌, arith}
 use Rattle.quantity.specs.declared.Source.{Source}
 use Rattle.quantity.specs.Component.{Pixel}
 use Rattle.rows.specs.Row.{with_pixels, converted}

@@ -7,7 +7,7 @@ use Rattle.span.proofs.BlockLaws.{kept, written}
 use Rattle.span.proofs.block.map_pixels.Goals as goal
 
 pub loop-k-init : goal.loop-k-init
-loop-k-init g c = (c.requires.0, below_none _, sym (g.met.R.Row.dark c.args.row.now))
+loop-k-init g c = (c.requires.0, below_none _, rw c.black-black.ensures (sym (g.met.R.Row.black_dark c.args.row.now)))
 
 pub overflow_add-first : goal.overflow_add-first
 overflow_add-first g c = omega arith

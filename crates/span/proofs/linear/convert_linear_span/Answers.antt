@@ -1,5 +1,5 @@
 -- `span::linear::convert_linear_span` meets its contract: the pixels are those of a row of floats.
-use Rattle.std.proofs.Common.{◌≡◌, ℕ, ◌*◌, ◌/◌, min, length, ap, ◌∙◌, arith}
+use Rattle.std.proofs.Common.{ℕ, ◌*◌, ◌/◌, min, length, ap, ◌∙◌, arith}
 use Rattle.quantity.specs.Component.{Pixel}
 use Rattle.rows.specs.Row.{with_pixels}
 use Rattle.rows.proofs.RowLaws.{no_pixels}
