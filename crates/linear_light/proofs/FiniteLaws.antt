@@ -1,5 +1,5 @@
--- A value less itself is 0 where it is a number, and otherwise none: how a program tells what refusal 16 is for. The library's test, which the code calls,
--- tells the same.
+-- A value less itself is 0 where it is a number, and otherwise none. The library's test, which the code calls, passes just these values: so it tells what
+-- refusal 16 is for.
 use Rattle.std.proofs.Common.{◌≡◌, ℕ, ◌-◌, ◌*◌, ◌<◌, Bool, true, false, cond, not, ◌&&◌, ◌||◌, eqb, ltb, sym, refl, ◌∙◌, le_refl, mul-pos, zero-mul, arith}
 use Rattle.std.proofs.Common.{lit<, le-ltb, eq-eqb}
 use mathlib.Core.Bool.{beq}

@@ -57,7 +57,7 @@ fn copy_title<R: Read, W: Write, E: Write>(
 }
 
 // Block after block, until the input has no whole one left. One block is all that is held at a time, and none where nothing is copied: a refused title is
-// told on a stack of 8 KiB.
+// told on a stack of 16 KiB.
 #[inline(never)]
 fn copy_blocks<R: Read, W: Write, E: Write>(
     input: &mut Input<'_, R, E>,

@@ -1,7 +1,7 @@
 -- Laws of rows whose samples each come from one element, whatever the elements are: what passed tests say, that the pixels of a part of a row are the row's,
 -- and the destination after a call that converts.
-use Rattle.std.proofs.Common.{◌≡◌, ℕ, ◌+◌, ◌-◌, ◌*◌, ◌/◌, ◌%◌, ◌<◌, ◌≤◌, Bool, true, false, cond, List, ◌++◌, length, get_or, take, drop, sym, refl, ap, ◌∙◌, arith}
-use Rattle.std.proofs.Common.{length-drop, length-take, get_or-drop, get_or-take, Result, Ok, Err}
+use Rattle.std.proofs.Common.{◌≡◌, ℕ, ◌+◌, ◌-◌, ◌*◌, ◌/◌, ◌%◌, ◌<◌, ◌≤◌, Bool, true, false, cond, List, ◌++◌, length, get_or, take, drop, sym, refl, ap}
+use Rattle.std.proofs.Common.{◌∙◌, arith, length-drop, length-take, get_or-drop, get_or-take, Result, Ok, Err}
 use Rattle.quantity.specs.Component.{Pixel}
 use Rattle.refusal.specs.declared.Refusal.{Refusal}
 use Rattle.refusal.specs.declared.Refusal.TheVariants.{DestinationLength, Span}

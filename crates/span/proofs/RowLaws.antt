@@ -1,10 +1,9 @@
--- Laws of rows: what is delivered of their mapped pixels is what the definitions deliver, and as many pixels by another name for their number.
-use Rattle.std.proofs.Common.{◌≡◌, ℕ, List, refl, ap, ◌∙◌}
+-- Laws of rows: what is delivered of their mapped pixels is what the definitions deliver.
+use Rattle.std.proofs.Common.{◌≡◌, ℕ, List, refl}
 use lib.Ieee.{Float}
 use Rattle.quantity.specs.declared.Source.{Source}
-use Rattle.quantity.specs.Component.{Pixel}
 use Rattle.pixel.specs.Conversion.{mapped, code, code_of}
-use Rattle.rows.specs.Row.{pixel_at, with_pixels, converted}
+use Rattle.rows.specs.Row.{pixel_at, converted}
 use Rattle.ycbcr.specs.declared.SignalFormat.{SignalFormat}
 use Rattle.ycbcr.specs.Delivery.{in_format, delivered}
 use Rattle.linear_light.specs.Conversion.{lights_of, linear_code}
@@ -21,6 +20,3 @@ pub floats_delivered : (format : SignalFormat) (peak : ℕ) (values : List Float
     → row_samples format (mapped_lights peak) (λ j. lights_of (linear_at values j)) ≡ converted_from (λ v. in_format format (linear_code peak v)) values
 unfolding linear_code code_of
 floats_delivered format peak values = refl
-
-pub counted : (k n : ℕ) (p : ℕ → Pixel) (dst : List ℕ) {d : List ℕ} → d ≡ with_pixels p dst 0 k → k ≡ n → d ≡ with_pixels p dst 0 n
-counted k n p dst d e = d ∙ ap (with_pixels p dst 0) e

@@ -23,12 +23,12 @@ dark_mapped source p h =
     let none = mapped_dark source p (no_light_lem source.format p h) in
     fun_ext (elim [ red ↦ none red | green ↦ none green | blue ↦ none blue ])
 
-pub black_mapped : (source : Source) → mapped source (pixel 0 0 0) ≡ pixel 0 0 0
-black_mapped source = dark_mapped source (pixel 0 0 0) (elim [ red ↦ omega arith | green ↦ omega arith | blue ↦ omega arith ])
+pub zero_mapped : (source : Source) → mapped source (pixel 0 0 0) ≡ pixel 0 0 0
+zero_mapped source = dark_mapped source (pixel 0 0 0) (elim [ red ↦ omega arith | green ↦ omega arith | blue ↦ omega arith ])
 
 -- three codes of black
-pub black_code_mapped : (source : Source) → let d = black source.format in mapped source (pixel d d d) ≡ pixel 0 0 0
-black_code_mapped source =
+pub black_mapped : (source : Source) → let d = black source.format in mapped source (pixel d d d) ≡ pixel 0 0 0
+black_mapped source =
     let d = black source.format in
     dark_mapped source (pixel d d d) (elim [ red ↦ omega arith | green ↦ omega arith | blue ↦ omega arith ])
 

@@ -1,7 +1,7 @@
 // A block of up to 32 pixels of a span, in three passes: mapped components, roots of their luminances, codes and what is delivered of them. Within a pass
 // no pixel waits for another, so a processor works on several at once. A pixel that equals the one before it takes over what that was given: flat areas
 // are mostly such pixels.
-ghost use Rattle.std.specs.Prelude.{◌≡◌, ℕ, ◌+◌, ◌-◌, ◌*◌, ◌^◌, ◌<◌, ◌≤◌, length};
+ghost use Rattle.std.specs.Prelude.{◌≡◌, ℕ, ◌+◌, ◌-◌, ◌*◌, ◌/◌, ◌^◌, ◌<◌, ◌≤◌, min, length};
 ghost use Rattle.quantity.specs.Units.{ten_thousand};
 ghost use Rattle.quantity.specs.Component.{Component, components};
 ghost use Rattle.rows.specs.Row.{pixels_bytes, with_pixels};
@@ -25,11 +25,11 @@ pub(crate) const DARK: Rgb<u64> = Rgb {
     blue: 0,
 };
 
-// The first pixels of dst, converted from those of a row. Other bytes of dst remain.
-pub(crate) fn convert_pixels<R: Row>(row: &R, pixels: usize, format: SignalFormat, dst: &mut [u8])
-    requires { (pixels ≤ R.pixels row.now) × (6 * pixels ≤ length dst.old) }
-    ensures { dst.new ≡ with_pixels (row_samples format (R.mapping row.now) (R.given row.now)) dst.old 0 pixels }
+// The pixels that fill dst, converted from the first ones of a row: as many whole ones as both have. Other bytes of dst remain.
+pub(crate) fn convert_pixels<R: Row>(row: &R, format: SignalFormat, dst: &mut [u8])
+    ensures { dst.new ≡ with_pixels (row_samples format (R.mapping row.now) (R.given row.now)) dst.old 0 (min (R.pixels row.now) (length dst.old / 6)) }
 {
+    let pixels = row.count().min(dst.len() / 6);
     for first in (0..pixels).step_by(BLOCK) {
         let end = pixels.min(first + BLOCK);
         convert_block(row, first..end, format, &mut dst[6 * first..6 * end]);

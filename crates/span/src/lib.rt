@@ -44,7 +44,7 @@ pub fn convert_span(source: Source, format: SignalFormat, src: &[u8], dst: &mut 
         format: source.format,
         codes: src,
     };
-    convert_pixels(&row, pixels, format, dst);
+    convert_pixels(&row, format, dst);
 }
 
 // The HLG codes of one pixel.

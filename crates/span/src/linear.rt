@@ -28,7 +28,7 @@ pub fn convert_linear_span(peak: u64, src: &[f32], dst: &mut [u8])
         curve: Curve::of(peak),
         values: src,
     };
-    convert_pixels(&row, pixels, SignalFormat::Rgb, dst);
+    convert_pixels(&row, SignalFormat::Rgb, dst);
 }
 
 // The HLG codes of one pixel.

@@ -9,7 +9,7 @@ ghost use Rattle.rows.specs.Row.{pixel_at};
 ghost use Rattle.linear_light.specs.Conversion.{lights_of};
 ghost use Rattle.linear_light.specs.Row.{linear_at};
 ghost use Rattle.span.specs.Linear.{mapped_lights};
-ghost use Rattle.span.specs.Dark.{black_mapped, black_code_mapped, no_light_mapped};
+ghost use Rattle.span.specs.Dark.{black_mapped, zero_mapped, no_light_mapped};
 
 use crate::curve::Curve;
 use linear_light::light_of_value;
@@ -19,7 +19,6 @@ use rows::pixel_of;
 
 // A row of pixels, each given by three numbers that are mapped to components in units.
 pub(crate) trait Row {
-    // how many pixels it has
     ghost pixels: { Self → ℕ };
 
     ghost given: { Self → ℕ → Pixel };
@@ -27,6 +26,10 @@ pub(crate) trait Row {
     ghost mapping: { Self → Pixel → Pixel };
 
     ghost number_of_black: { Self → ℕ };
+
+    // How many pixels it has.
+    fn count(&self) -> usize
+        ensures { result ≡ pixels self.now };
 
     // The numbers of pixel j.
     fn at(&self, j: usize) -> Rgb<u64>
@@ -68,6 +71,10 @@ impl<'a> Row for CodeRow<'a> {
 
     ghost number_of_black = { λ row. black row.format };
 
+    fn count(&self) -> usize {
+        self.codes.len() / 6
+    }
+
     fn at(&self, j: usize) -> Rgb<u64> {
         pixel_of(&self.codes[6 * j..6 * j + 6])
     }
@@ -80,9 +87,9 @@ impl<'a> Row for CodeRow<'a> {
         self.format.black_code()
     }
 
-    ghost dark = { λ row. black_mapped (record { peak = row.curve.peak; format = row.format }) };
+    ghost dark = { λ row. zero_mapped (record { peak = row.curve.peak; format = row.format }) };
 
-    ghost black_dark = { λ row. black_code_mapped (record { peak = row.curve.peak; format = row.format }) };
+    ghost black_dark = { λ row. black_mapped (record { peak = row.curve.peak; format = row.format }) };
 
     ghost shown = { λ row p i. mapped_at_most (record { peak = row.curve.peak; format = row.format }) p i };
 }
@@ -102,6 +109,10 @@ impl<'a> Row for FloatRow<'a> {
     ghost mapping = { λ row. mapped_lights row.curve.peak };
 
     ghost number_of_black = { λ row. 0 };
+
+    fn count(&self) -> usize {
+        self.values.len() / 3
+    }
 
     fn at(&self, j: usize) -> Rgb<u64> {
         Rgb {
