@@ -81,7 +81,7 @@ uint64_t pq_hlg_convert_row_ycbcr(uint64_t peak, uint64_t format,
      16  the span has a value that is infinite or not a number; the place says which one comes first, 0 being the row's first float
    The place is 0 for all but 16. Values outside the span are not looked at.
 
-   row lies as floats must, at a multiple of 4 bytes. An accepted call uses 1.5 KiB of stack. All else is as for
+   row lies as floats must, at a multiple of 4 bytes. An accepted call uses 1.6 KiB of stack. All else is as for
    pq_hlg_convert_row. */
 uint64_t pq_hlg_convert_row_linear(uint64_t peak,
                                    const float *row, size_t row_len,
