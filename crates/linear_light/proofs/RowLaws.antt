@@ -1,4 +1,4 @@
--- Laws of rows of values, which are rows of elements: what passed tests say, and that the number for a host fits.
+-- Laws of rows of values, which are rows of elements: their tests, what passed tests say, and that the number for a host fits.
 use Rattle.std.proofs.Common.{◌≡◌, ℕ, ◌+◌, ◌-◌, ◌*◌, ◌/◌, ◌<◌, ◌≤◌, Bool, cond, ltb, List, length, take, drop, ap, ◌∙◌, subst, arith, ltb-true}
 use Rattle.std.proofs.Common.{Result, Ok, Err}
 use lib.Ieee.{Float, nan}
