@@ -13,7 +13,8 @@ use Rattle.linear_light.specs.Conversion.{values}
 use Rattle.linear_light.specs.Row.{linear_at, values_refused, first_not_finite, linear_span_answer}
 
 module _ (row : List Float) (bytes first end : ℕ) where
-  -- the tests of a call on elements, with 15 for a number of them that is refused, and then a further one
+  -- the tests of a call on elements, with 15 for a number of them that is refused, and then a further one. That refusal 15 tests the row's own number goes by
+  -- an equation of numbers, so that a wrong number fails at it, and the right one written otherwise does not.
   pub tests_then : (further : Result (Unit {0}) Refusal) → let n = length row in
       and_then (elements_answer ValueCount n bytes first end) further ≡ cond (values_refused n) (Err ValueCount)
       (cond (destination_refused bytes (2 * n)) (Err DestinationLength) (cond (span_refused (n / 3) first end) (Err Span) further))

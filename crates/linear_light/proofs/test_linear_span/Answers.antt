@@ -46,6 +46,7 @@ returns-in_err-test_elements c =
     rw (← tests_then a.row.now a.bytes a.span.start a.span.end _)
     (simp (sym c.test_elements.ensures, c.in_err-test_elements.was) (search rules))
 
+-- the place by an equation of numbers, for the reason that `tests_then` gives
 pub returns-in-Some : goal.returns-in-Some
 unfolding linear_span_answer
 returns-in-Some c =
